@@ -7,3 +7,4 @@ pub mod Clear
 pub mod Bounded
 pub mod Lengths
 pub mod Sections
+pub mod Examples

@@ -3,7 +3,8 @@ ghost use mathlib.Core.Path.{_≡_};
 ghost use Prim.Native.Nat.{_+_, _*_, _<_, _≤_};
 ghost use lib.ListN.{length};
 ghost use Rattle.std.specs.declared.option.Option.the-variants.{Some};
-ghost use Rattle.table_file.specs.Format.{unless, head-fault, duration-fault, durations-fault, price-count-fault, price-fault, prices-fault, relation-count-fault, relations-fault, end-fault, activities-in, relations-in, opening};
+ghost use Rattle.std.specs.Results.{isOk};
+ghost use Rattle.table_file.specs.Format.{unless, head-fault, duration-fault, durations-fault, price-count-fault, price-fault, prices-fault, relation-count-fault, relations-fault, end-fault, activities-in, relations-in, opening, faultless};
 ghost use Rattle.table_file.specs.Reading.{head-answer, HeadIs};
 use crate::fields::read_byte;
 use crate::fields::read_count;
@@ -138,11 +139,7 @@ fn check_end(file: &[u8], head: Head, relations: u16) -> Result<(), Refusal>
     Ok(())
 }
 
-/// Looks at every field of a table file from front to back: its shape, or the first fault with its place.
-///
-/// A field is one number or one letter. One that is only partly there makes the file too short, at the
-/// place where it ends; one that is whole and out of range is refused at its own place.
-pub fn inspect(file: &[u8]) -> Result<Shape, Refusal>
+fn read_fields(file: &[u8]) -> Result<Shape, Refusal>
     ensures { λ r. ⌜ r ≡ opening (now (file .entry)) ⌝ }
 {
     let head = read_head(file)?;
@@ -153,4 +150,15 @@ pub fn inspect(file: &[u8]) -> Result<Shape, Refusal>
     check_relations(file, head, relations)?;
     check_end(file, head, relations)?;
     Ok(Shape { horizon: head.horizon, activities: head.activities, relations })
+}
+
+/// Looks at every field of a table file from front to back: its shape, or the first fault with its place.
+///
+/// A field is one number or one letter. One that is only partly there makes the file too short, at the
+/// place where it ends; one that is whole and out of range is refused at its own place.
+pub fn inspect(file: &[u8]) -> Result<Shape, Refusal>
+    ensures answer { λ r. ⌜ r ≡ opening (now (file .entry)) ⌝ }
+    ensures opens { λ r. ⌜ isOk r ≡ faultless (now (file .entry)) ⌝ }
+{
+    read_fields(file)
 }
