@@ -119,14 +119,14 @@ module _ (p : List ℕ → Bool) (rest : List (List ℕ)) where
   each-some (suc k) u t r a b f e =
       ⊎-elim
       (λ (same : u ≡ t).
-          block u (after-each k (suc u) rest)
-          ∙ ap (λ o. orOther (mapped (λ s. u ∷ s) o) (first p (after-each k (suc u) rest))) (ap (λ j. first (λ s. p (j ∷ s)) rest) same ∙ e)
-          ∙ ap (λ j. Some (j ∷ r)) same)
+      block u (after-each k (suc u) rest)
+      ∙ ap (λ o. orOther (mapped (λ s. u ∷ s) o) (first p (after-each k (suc u) rest))) (ap (λ j. first (λ s. p (j ∷ s)) rest) same ∙ e)
+      ∙ ap (λ j. Some (j ∷ r)) same)
       (λ other.
-          let less : u < t = ⊎-elim (λ h. h) (λ h. omega arith) other in
-          block u (after-each k (suc u) rest)
-          ∙ ap (λ o. orOther (mapped (λ s. u ∷ s) o) (first p (after-each k (suc u) rest))) (f u (omega arith) less)
-          ∙ each-some k (suc u) t r (omega arith) (omega arith) (λ j c d. f j (omega arith) d) e)
+      let less : u < t = ⊎-elim (λ h. h) (λ h. omega arith) other in
+      block u (after-each k (suc u) rest)
+      ∙ ap (λ o. orOther (mapped (λ s. u ∷ s) o) (first p (after-each k (suc u) rest))) (f u (omega arith) less)
+      ∙ each-some k (suc u) t r (omega arith) (omega arith) (λ j c d. f j (omega arith) d) e)
       (cases-order u t)
 
 pub none-in : (n h : ℕ) (p : List ℕ → Bool) → ((s : List ℕ) → In n h s → p s ≡ false) → first p (lists n h) ≡ None

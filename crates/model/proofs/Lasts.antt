@@ -91,14 +91,14 @@ module _ (p : List ℕ → Bool) (rest : List (List ℕ)) where
   each-some (suc k) u t r a b f e =
       ⊎-elim
       (λ (same : u ≡ t).
-          block u (after-each k (suc u) rest)
-          ∙ ap (λ o. orOther o (mapped (λ s. u ∷ s) (last (λ s. p (u ∷ s)) rest))) (each-none k (suc u) (λ j c d. f j (omega arith) (omega arith)))
-          ∙ ap (mapped (λ s. u ∷ s)) (ap (λ j. last (λ s. p (j ∷ s)) rest) same ∙ e)
-          ∙ ap (λ j. Some (j ∷ r)) same)
+      block u (after-each k (suc u) rest)
+      ∙ ap (λ o. orOther o (mapped (λ s. u ∷ s) (last (λ s. p (u ∷ s)) rest))) (each-none k (suc u) (λ j c d. f j (omega arith) (omega arith)))
+      ∙ ap (mapped (λ s. u ∷ s)) (ap (λ j. last (λ s. p (j ∷ s)) rest) same ∙ e)
+      ∙ ap (λ j. Some (j ∷ r)) same)
       (λ other.
-          let less : u < t = ⊎-elim (λ h. h) (λ h. omega arith) other in
-          block u (after-each k (suc u) rest)
-          ∙ ap (λ o. orOther o (mapped (λ s. u ∷ s) (last (λ s. p (u ∷ s)) rest))) (each-some k (suc u) t r (omega arith) (omega arith) (λ j c d. f j c (omega arith)) e))
+      let less : u < t = ⊎-elim (λ h. h) (λ h. omega arith) other in
+      block u (after-each k (suc u) rest)
+      ∙ ap (λ o. orOther o (mapped (λ s. u ∷ s) (last (λ s. p (u ∷ s)) rest))) (each-some k (suc u) t r (omega arith) (omega arith) (λ j c d. f j c (omega arith)) e))
       (cases-order u t)
 
 none-in : (n h : ℕ) (p : List ℕ → Bool) → ((s : List ℕ) → In n h s → p s ≡ false) → last p (lists n h) ≡ None

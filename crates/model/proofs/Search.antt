@@ -98,28 +98,28 @@ best-of m [] = inl refl
 best-of m (x ∷ xs) =
     ⊎-elim
     (λ (idle : all-of (λ r. not (meets m r)) xs ≡ true).
-        ⊎-elim
-        (λ (yes : meets m x ≡ true). inr (record { the = x; among = λ q e. and-parts (q x) (all-of q xs) e .0; met = yes; best = and-from (no-dearer m x x) _ (itself m x) (all-idle m x xs idle) }))
-        (λ (no : meets m x ≡ false). inl (and-from (not (meets m x)) _ (ap not no) idle))
-        (cases-bool (meets m x)))
+    ⊎-elim
+    (λ (yes : meets m x ≡ true). inr (record { the = x; among = λ q e. and-parts (q x) (all-of q xs) e .0; met = yes; best = and-from (no-dearer m x x) _ (itself m x) (all-idle m x xs idle) }))
+    (λ (no : meets m x ≡ false). inl (and-from (not (meets m x)) _ (ap not no) idle))
+    (cases-bool (meets m x)))
     (λ (b : Best m xs).
-        ⊎-elim
-        (λ (yes : (meets m x && leZ (cost m x) (cost m (b .the))) ≡ true).
-            let h = and-parts (meets m x) (leZ (cost m x) (cost m (b .the))) yes in
-            inr (record {
-              the = x;
-              among = λ q e. and-parts (q x) (all-of q xs) e .0;
-              met = h .0;
-              best = and-from (no-dearer m x x) _ (itself m x) (all-by m x (b .the) (leZ-true _ _ (h .1)) xs (b .best));
-            }))
-        (λ (no : (meets m x && leZ (cost m x) (cost m (b .the))) ≡ false).
-            inr (record {
-              the = b .the;
-              among = λ q e. b .among q (and-parts (q x) (all-of q xs) e .1);
-              met = b .met;
-              best = and-from (no-dearer m (b .the) x) _ (no-dearer-from m (b .the) x (λ met. cheaper m x (b .the) (meets-test m x .1 met) no)) (b .best);
-            }))
-        (cases-bool (meets m x && leZ (cost m x) (cost m (b .the)))))
+    ⊎-elim
+    (λ (yes : (meets m x && leZ (cost m x) (cost m (b .the))) ≡ true).
+    let h = and-parts (meets m x) (leZ (cost m x) (cost m (b .the))) yes in
+    inr (record {
+      the = x;
+      among = λ q e. and-parts (q x) (all-of q xs) e .0;
+      met = h .0;
+      best = and-from (no-dearer m x x) _ (itself m x) (all-by m x (b .the) (leZ-true _ _ (h .1)) xs (b .best));
+    }))
+    (λ (no : (meets m x && leZ (cost m x) (cost m (b .the))) ≡ false).
+    inr (record {
+      the = b .the;
+      among = λ q e. b .among q (and-parts (q x) (all-of q xs) e .1);
+      met = b .met;
+      best = and-from (no-dearer m (b .the) x) _ (no-dearer-from m (b .the) x (λ met. cheaper m x (b .the) (meets-test m x .1 met) no)) (b .best);
+    }))
+    (cases-bool (meets m x && leZ (cost m x) (cost m (b .the)))))
     (best-of m xs)
   where
     cheaper : (m : Meaning) (x y : List ℕ) → meets m x ≡ true → (meets m x && leZ (cost m x) (cost m y)) ≡ false → cost m y ≤ℤ cost m x
@@ -133,7 +133,7 @@ some-least m none r met =
     ⊎-elim
     (λ idle. true≢false (sym (meets-test m r .1 met) ∙ not-true (meets m r) (of-in (m .n) (m .horizon) (λ s. not (meets m s)) idle r (in-lists m r met))))
     (λ (b : Best m (lists (m .n) (m .horizon))).
-        both-ways (of-least-cost m (b .the)) (not-true (of-least-cost m (b .the)) (b .among (λ s. not (of-least-cost m s)) none)) (and-from (meets m (b .the)) _ (b .met) (b .best)))
+    both-ways (of-least-cost m (b .the)) (not-true (of-least-cost m (b .the)) (b .among (λ s. not (of-least-cost m s)) none)) (and-from (meets m (b .the)) _ (b .met) (b .best)))
     (best-of m (lists (m .n) (m .horizon)))
 
 idle-lists : (m : Meaning) (q : List ℕ → Bool) → ((s : List ℕ) → q s ≡ true → Meets m s) → NoneMeets m → all-of (λ s. not (q s)) (lists (m .n) (m .horizon)) ≡ true

@@ -27,7 +27,8 @@ impl Day {
     pub fn number(self) -> u32
         ensures { λ r. ⌜ r ≡ self .0 ⌝ }
     {
-        self.0
+        let Day(number) = self;
+        number
     }
 }
 

@@ -5,5 +5,4 @@ ghost use Rattle.relations.specs.Sayings.{RelationIsItsLag};
 /// after the from-end: for both letters of either end and both senses.
 pub fn relation_is_its_lag()
     ensures { λ _. ⌜ RelationIsItsLag ⌝ }
-{
-}
+{}

@@ -96,8 +96,16 @@ impl Relation {
         }
         let gap = gap as i16;
         match self.sense {
-            Sense::Least => Some(Lag { from: self.from, to: self.to, gap }),
-            Sense::Greatest => Some(Lag { from: self.to, to: self.from, gap }),
+            Sense::Least => Some(Lag {
+                from: self.from,
+                to: self.to,
+                gap,
+            }),
+            Sense::Greatest => Some(Lag {
+                from: self.to,
+                to: self.from,
+                gap,
+            }),
         }
     }
 }

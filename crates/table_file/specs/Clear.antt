@@ -42,11 +42,12 @@ field-clear file at bytes b f e =
     ⊎-elim
     (λ (short : ltb (length file) (at + bytes) ≡ true). absurd (none-some (sym (ap (λ v. cond v (Some (refuse Short (length file))) (cond b None (Some (refuse f at)))) short) ∙ e)))
     (λ (long : ltb (length file) (at + bytes) ≡ false).
-        record { there = ltb-false (length file) (at + bytes) long; fits = in-range b (sym (ap (λ v. cond v (Some (refuse Short (length file))) (cond b None (Some (refuse f at)))) long) ∙ e) })
+    record { there = ltb-false (length file) (at + bytes) long; fits = in-range b (sym (ap (λ v. cond v (Some (refuse Short (length file))) (cond b None (Some (refuse f at)))) long) ∙ e) })
     (cases-bool (ltb (length file) (at + bytes)))
   where
     none-some : {r : Refusal} → Some r ≡ None → ⊥
     none-some z = let o : _≡_ {A = ℕ} 0 1 = cc in omega arith
+
     in-range : (b : Bool) → cond b None (Some (refuse f at)) ≡ None → b ≡ true
     in-range true z = refl
     in-range false z = absurd (none-some z)

@@ -15,8 +15,7 @@ pub fn two_activities_in_turn()
     ensures cheapest { λ _. ⌜ cheapest (stated two-in-turn) ≡ Some (0 ∷ 2 ∷ []) ⌝ }
     ensures cost { λ _. ⌜ cost (stated two-in-turn) (0 ∷ 2 ∷ []) ≡ pos 7 ⌝ }
     ensures floors { λ _. ⌜ floors (stated two-in-turn) ≡ pos 5 ⌝ }
-{
-}
+{}
 
 /// That the second starts right when the first is finished changes nothing here.
 pub fn two_activities_in_a_row()
@@ -24,16 +23,14 @@ pub fn two_activities_in_a_row()
     ensures cheapest { λ _. ⌜ cheapest (stated two-in-a-row) ≡ Some (0 ∷ 2 ∷ []) ⌝ }
     ensures cost { λ _. ⌜ cost (stated two-in-a-row) (0 ∷ 2 ∷ []) ≡ pos 7 ⌝ }
     ensures floors { λ _. ⌜ floors (stated two-in-a-row) ≡ pos 5 ⌝ }
-{
-}
+{}
 
 /// Where every slot costs the same, the cheapest start is the first and the latest is the last.
 pub fn one_activity_at_will()
     ensures opens { λ _. ⌜ faultless one-at-will ≡ true ⌝ }
     ensures cheapest { λ _. ⌜ cheapest (stated one-at-will) ≡ Some (0 ∷ []) ⌝ }
     ensures latest { λ _. ⌜ latest (stated one-at-will) ≡ Some (2 ∷ []) ⌝ }
-{
-}
+{}
 
 /// An activity that is to start after itself has no start.
 pub fn one_activity_after_itself()
@@ -41,5 +38,4 @@ pub fn one_activity_after_itself()
     ensures earliest { λ _. ⌜ earliest (stated after-itself) ≡ None ⌝ }
     ensures cheapest { λ _. ⌜ cheapest (stated after-itself) ≡ None ⌝ }
     ensures latest { λ _. ⌜ latest (stated after-itself) ≡ None ⌝ }
-{
-}
+{}

@@ -35,7 +35,10 @@ fn read_head(file: &[u8]) -> Result<Head, Refusal>
             if *activities > 64 {
                 return Err(Fault::Count.at(2));
             }
-            Ok(Head { horizon: *horizon, activities: *activities })
+            Ok(Head {
+                horizon: *horizon,
+                activities: *activities,
+            })
         }
     }
 }
@@ -149,7 +152,11 @@ fn read_fields(file: &[u8]) -> Result<Shape, Refusal>
     let relations = read_relation_count(file, head)?;
     check_relations(file, head, relations)?;
     check_end(file, head, relations)?;
-    Ok(Shape { horizon: head.horizon, activities: head.activities, relations })
+    Ok(Shape {
+        horizon: head.horizon,
+        activities: head.activities,
+        relations,
+    })
 }
 
 /// Looks at every field of a table file from front to back: its shape, or the first fault with its place.

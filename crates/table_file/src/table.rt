@@ -22,6 +22,9 @@ use model::project::Project;
 use model::time::Slot;
 use relations::relation::Relation;
 
+// The height of a project that lies on nothing.
+const NOTHING_BELOW: u8 = 0;
+
 impl<'a> Table<'a> {
     /// The table of a file that opening has found to be without a fault.
     pub fn of_inspected(file: &'a [u8]) -> Table<'a>
@@ -35,7 +38,10 @@ impl<'a> Table<'a> {
         ensures head { λ r. ⌜ HeadIs (now (now (self .entry) .file)) r ⌝ }
         ensures lengths { λ _. ⌜ Lengths (now (now (self .entry) .file)) ⌝ }
     {
-        Head { horizon: self.file[1], activities: self.file[2] }
+        Head {
+            horizon: self.file[1],
+            activities: self.file[2],
+        }
     }
 
     /// A relation as it stands in the file; `None` where there is none of that number.
@@ -54,7 +60,10 @@ impl<'a> Table<'a> {
         ensures { λ r. ⌜ shown r ≡ durations-of (now (now (self .entry) .file)) ⌝ }
     {
         let head = self.head();
-        Placed { place: 3, section: Section::Durations(&self.file[3..3 + head.activities as usize]) }
+        Placed {
+            place: 3,
+            section: Section::Durations(&self.file[3..3 + head.activities as usize]),
+        }
     }
 
     /// The prices, activity by activity and slot by slot, as they lie in the file.
@@ -64,7 +73,10 @@ impl<'a> Table<'a> {
         let head = self.head();
         let place = 5 + head.activities as usize;
         let end = head.relation_count_place();
-        Placed { place: place as u16, section: Section::Prices(&self.file[place..end]) }
+        Placed {
+            place: place as u16,
+            section: Section::Prices(&self.file[place..end]),
+        }
     }
 
     /// The relations, as they lie in the file.
@@ -72,7 +84,10 @@ impl<'a> Table<'a> {
         ensures { λ r. ⌜ shown r ≡ relations-of (now (now (self .entry) .file)) ⌝ }
     {
         let place = self.head().relation_count_place() + 2;
-        Placed { place: place as u16, section: Section::Relations(&self.file[place..]) }
+        Placed {
+            place: place as u16,
+            section: Section::Relations(&self.file[place..]),
+        }
     }
 }
 
@@ -90,7 +105,7 @@ pub impl<'a> Project for Table<'a> as TableProject {
     }
 
     fn duration(&self, activity: u16) -> Option<u16> {
-        if activity >= self.head().activities as u16 {
+        if activity >= self.count() {
             return None;
         }
         Some(self.file[3 + activity as usize] as u16)
@@ -112,10 +127,13 @@ pub impl<'a> Project for Table<'a> as TableProject {
 
     fn lag(&self, number: u16) -> Option<Lag> {
         let relation = self.relation(number)?;
-        relation.lag(self.file[3 + relation.from as usize], self.file[3 + relation.to as usize])
+        relation.lag(
+            self.file[3 + relation.from as usize],
+            self.file[3 + relation.to as usize],
+        )
     }
 
     fn height(&self) -> u8 {
-        0
+        NOTHING_BELOW
     }
 }

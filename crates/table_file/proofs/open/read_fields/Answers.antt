@@ -84,8 +84,7 @@ read-relation-count-requires c κs = head-is (c .args .file .now) (c .in-Continu
 pub check-relations-requires : need.check-relations-requires
 check-relations-requires c κs =
     let file = c .args .file .now in
-    let same = value (relation-count-fault file) (relations-in file) (c .in-Continue-relations .relations) (c .in-Continue-relations .ensures tt) in
-    (
+    let same = value (relation-count-fault file) (relations-in file) (c .in-Continue-relations .relations) (c .in-Continue-relations .ensures tt) in (
       head-is file (c .in-Continue-head .head) (c .in-Continue-head .ensures tt),
       (
         durations-there file (clear _ _ _ (c .in-Continue-check-price-count .ensures tt)),
@@ -96,8 +95,7 @@ check-relations-requires c κs =
 pub check-end-requires : need.check-end-requires
 check-end-requires c κs =
     let file = c .args .file .now in
-    let same = value (relation-count-fault file) (relations-in file) (c .in-Continue-relations .relations) (c .in-Continue-relations .ensures tt) in
-    (
+    let same = value (relation-count-fault file) (relations-in file) (c .in-Continue-relations .relations) (c .in-Continue-relations .ensures tt) in (
       head-is file (c .in-Continue-head .head) (c .in-Continue-head .ensures tt),
       (same, rw same (relations-few file (clear (relation-count-fault file) (relations-in file) (c .in-Continue-relations .relations) (c .in-Continue-relations .ensures tt)))),
     )
