@@ -1,6 +1,8 @@
-// Reads a table file from standard input and prints what is in it, or what is wrong with it and where.
+// Reads a table file from standard input and prints what is in it and the earliest starts,
+// or what is wrong with it and where.
 mod input;
 mod report;
+mod starts;
 mod wording;
 
 use input::Input;

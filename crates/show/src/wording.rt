@@ -1,6 +1,10 @@
 // The words that people read.
+use earliest::chain::Entry;
+use earliest::chain::How;
 use model::refusal::Fault;
 use model::refusal::Refusal;
+use model::time::DayDisplay;
+use model::time::Slot;
 use relations::relation::End;
 use relations::relation::Relation;
 use relations::relation::Sense;
@@ -65,6 +69,33 @@ pub fn relation_words(heap: Global, relation: Relation) -> Result<String, AllocE
     )
 }
 
+/// An entry of a chain in words: what it says of its activity, and why.
+pub fn entry_words(heap: Global, entry: Entry) -> Result<String, AllocError> {
+    let activity = entry.activity;
+    let day = entry.slot.day();
+    match entry.how {
+        How::Start => format!(heap, "activity {activity} starts on day {day} or later"),
+        How::PastClosed(height) => {
+            let before = Slot(entry.slot.0.saturating_sub(1)).day();
+            if height == 0 {
+                format!(
+                    heap,
+                    "activity {activity} cannot start on day {before}: closed in the table"
+                )
+            } else {
+                format!(
+                    heap,
+                    "activity {activity} cannot start on day {before}: closed by layer {height}"
+                )
+            }
+        }
+        How::ByLag(number) => format!(
+            heap,
+            "so activity {activity} cannot start before day {day}: relation {number}"
+        ),
+    }
+}
+
 #[cfg(test)]
 mod tests {
     use super::*;
@@ -91,5 +122,23 @@ mod tests {
                 check(line.as_str() == "refused 1 0: the kind letter is not T, at byte 0")
             }
         }
+    }
+
+    #[test]
+    fn a_chain_in_words(rt: LibcRuntime) -> Result<(), Fail> {
+        let closed = Entry {
+            activity: 0,
+            slot: Slot(1),
+            how: How::PastClosed(1),
+        };
+        let line = entry_words(rt.alloc(), closed)?;
+        check(line.as_str() == "activity 0 cannot start on day 1: closed by layer 1")?;
+        let by_lag = Entry {
+            activity: 1,
+            slot: Slot(3),
+            how: How::ByLag(0),
+        };
+        let line = entry_words(rt.alloc(), by_lag)?;
+        check(line.as_str() == "so activity 1 cannot start before day 4: relation 0")
     }
 }

@@ -1,0 +1,8 @@
+// The earliest starts of any project, or a chain of reasons why there are none.
+pub mod chain;
+pub mod earliest;
+pub mod examples;
+mod guard;
+mod nodes;
+mod push;
+mod trace;

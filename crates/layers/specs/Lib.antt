@@ -1,0 +1,4 @@
+pub mod Layers
+pub mod Kept
+pub mod Terms
+pub mod Examples
