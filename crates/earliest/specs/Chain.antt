@@ -33,7 +33,11 @@ cut-to h (negsuc x) = 0
 abbrev pub Leads : Meaning → How → ℕ → ℕ → ℕ → ℕ → Type 0
 Leads m Start a t b u = ⊥
 Leads m (PastClosed h) a t b u = (m .price a t ≡ Closed h) × (b ≡ a) × (u ≡ t + 1)
-Leads m (ByLag k) a t b u = (k < m .lags) × (m .lag k .from ≡ a) × (m .lag k .to ≡ b) × (u ≡ cut-to (m .horizon) (pos t +ℤ m .lag k .gap))
+Leads m (ByLag k) a t b u =
+    (k < m .lags)
+    × (m .lag k .from ≡ a)
+    × (m .lag k .to ≡ b)
+    × (u ≡ cut-to (m .horizon) (pos t +ℤ m .lag k .gap))
 
 -- from activity a and slot t, entry by entry, to the horizon, which only the last entry reaches
 abbrev pub RunsOn : Meaning → ℕ → ℕ → List Entry → Type 0

@@ -1,5 +1,6 @@
--- How nodes stand in lent words; callers need none of this. Four words each, node e from word 4·e on. A node is an entry that some chain may
--- have, and the number of the node before it, 0 if that is the chain's first entry.
+-- How nodes stand in lent words; callers need none of this. Four words each, node e from word 4·e on. A
+-- node is an entry that some chain may have, and the number of the node before it, 0 if that is the chain's
+-- first entry.
 use mathlib.Core.Path.{_≡_}
 use mathlib.Core.Bool.{Bool, cond}
 use mathlib.Core.List.{List}

@@ -1,5 +1,6 @@
--- How the bounds are pushed up; callers need none of this. Each activity has a latest node, whose slot is the activity's bound: no list that
--- meets the project starts the activity before it. Node 0 stands for slot 0 of any activity.
+-- How the bounds are pushed up; callers need none of this. Each activity has a latest node, whose slot is
+-- the activity's bound: no list that meets the project starts the activity before it. Node 0 stands for
+-- slot 0 of any activity.
 use mathlib.Core.Path.{_≡_}
 use mathlib.Core.Bool.{cond}
 use mathlib.Core.List.{List, map}

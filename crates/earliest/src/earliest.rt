@@ -38,7 +38,9 @@ pub fn chain_entries<P: Project>(project: &P) -> usize
 fn write_starts<P: Project>(project: &P, words: &[u32], latest: &[u32], starts: &mut [u8])
     requires { ⌜ Ready (P·Project .meaning (now project)) (now words) (now latest) ⌝ }
     requires { ⌜ P·Project .meaning (now project) .n ≤ length (now starts) ⌝ }
-    ensures { λ _. ⌜ now (starts .exit) ≡ bounds (P·Project .meaning (now (project .entry))) (node-of (now (words .entry))) (latest-of (now (latest .entry))) ++ drop (P·Project .meaning (now (project .entry)) .n) (now (starts .entry)) ⌝ }
+    ensures { λ _. ⌜ now (starts .exit)
+        ≡ bounds (P·Project .meaning (now (project .entry))) (node-of (now (words .entry))) (latest-of (now (latest .entry)))
+        ++ drop (P·Project .meaning (now (project .entry)) .n) (now (starts .entry)) ⌝ }
 {
     for activity in 0..project.count() as usize {
         starts[activity] = node_at(words, latest[activity]).entry.slot.0 as u8;
@@ -65,8 +67,11 @@ fn search<P: Project>(
     words: &mut [u32],
     chain: &mut [Entry],
 ) -> Result<(), Refusal>
-    requires { ⌜ Enough (P·Project .meaning (now project)) (length (now starts)) (length (now words)) (length (now chain)) ⌝ }
-    ensures { λ r. ⌜ Told (P·Project .meaning (now (project .entry))) (searched (first-to-meet (P·Project .meaning (now (project .entry))))) (now (starts .entry)) (now (starts .exit)) (now (chain .entry)) (now (chain .exit)) r ⌝ }
+    requires { ⌜ Enough (P·Project .meaning (now project))
+        (length (now starts)) (length (now words)) (length (now chain)) ⌝ }
+    ensures { λ r. ⌜ Told (P·Project .meaning (now (project .entry)))
+        (searched (first-to-meet (P·Project .meaning (now (project .entry)))))
+        (now (starts .entry)) (now (starts .exit)) (now (chain .entry)) (now (chain .exit)) r ⌝ }
 {
     begin(words);
     let mut latest = [0; 64];
@@ -89,9 +94,12 @@ fn settle<P: Project>(
     words: &mut [u32],
     chain: &mut [Entry],
 ) -> Result<(), Refusal>
-    requires { ⌜ Enough (P·Project .meaning (now project)) (length (now starts)) (length (now words)) (length (now chain)) ⌝ }
+    requires { ⌜ Enough (P·Project .meaning (now project))
+        (length (now starts)) (length (now words)) (length (now chain)) ⌝ }
     ensures clean { λ _. ⌜ now (words .exit) ≡ replicate (length (now (words .entry))) 0 ⌝ }
-    ensures told { λ r. ⌜ Told (P·Project .meaning (now (project .entry))) (searched (first-to-meet (P·Project .meaning (now (project .entry))))) (now (starts .entry)) (now (starts .exit)) (now (chain .entry)) (now (chain .exit)) r ⌝ }
+    ensures told { λ r. ⌜ Told (P·Project .meaning (now (project .entry)))
+        (searched (first-to-meet (P·Project .meaning (now (project .entry)))))
+        (now (starts .entry)) (now (starts .exit)) (now (chain .entry)) (now (chain .exit)) r ⌝ }
 {
     let guard = Cleared(words);
     search(project, starts, guard.0, chain)
@@ -113,7 +121,9 @@ pub fn earliest<P: Project>(
     nodes: &mut [u32],
     chain: &mut [Entry],
 ) -> Result<(), Refusal>
-    ensures { λ r. ⌜ Outcome (P·Project .meaning (now (project .entry))) (now (starts .entry)) (now (starts .exit)) (now (nodes .entry)) (now (nodes .exit)) (now (chain .entry)) (now (chain .exit)) r ⌝ }
+    ensures { λ r. ⌜ Outcome (P·Project .meaning (now (project .entry)))
+        (now (starts .entry)) (now (starts .exit)) (now (nodes .entry)) (now (nodes .exit))
+        (now (chain .entry)) (now (chain .exit)) r ⌝ }
 {
     let count = project.count();
     if starts.len() < count as usize {

@@ -2,7 +2,7 @@
 pub mod chain;
 pub mod earliest;
 pub mod examples;
-mod guard;
+pub mod guard;
 mod nodes;
 mod push;
 mod trace;

@@ -37,7 +37,8 @@ fn closed_step<P: Project>(
 ) -> Option<Node>
     requires { ⌜ activity < P·Project .meaning (now project) .n ⌝ }
     requires { ⌜ Ready (P·Project .meaning (now project)) (now words) (now latest) ⌝ }
-    ensures { λ r. ⌜ r ≡ closed-step (P·Project .meaning (now (project .entry))) (node-of (now (words .entry))) (latest-of (now (latest .entry))) activity ⌝ }
+    ensures { λ r. ⌜ r ≡ closed-step (P·Project .meaning (now (project .entry)))
+        (node-of (now (words .entry))) (latest-of (now (latest .entry))) activity ⌝ }
 {
     let parent = latest[activity as usize];
     let slot = node_at(words, parent).entry.slot;
@@ -58,7 +59,8 @@ fn closed_step<P: Project>(
 fn lag_step<P: Project>(project: &P, words: &[u32], latest: &[u32], number: u16) -> Option<Node>
     requires { ⌜ number < P·Project .meaning (now project) .lags ⌝ }
     requires { ⌜ Ready (P·Project .meaning (now project)) (now words) (now latest) ⌝ }
-    ensures { λ r. ⌜ r ≡ lag-step (P·Project .meaning (now (project .entry))) (node-of (now (words .entry))) (latest-of (now (latest .entry))) number ⌝ }
+    ensures { λ r. ⌜ r ≡ lag-step (P·Project .meaning (now (project .entry)))
+        (node-of (now (words .entry))) (latest-of (now (latest .entry))) number ⌝ }
 {
     let lag = project.lag(number)?;
     let parent = latest[lag.from as usize];
@@ -91,7 +93,8 @@ fn keep(words: &mut [u32], latest: &mut [u32], number: u32, node: Node)
 /// the horizon, or none when every bound lies in an open slot and all lags hold.
 pub fn push<P: Project>(project: &P, words: &mut [u32], latest: &mut [u32]) -> Option<Node>
     requires { ⌜ Fresh (P·Project .meaning (now project)) (now words) (now latest) ⌝ }
-    ensures { λ r. ⌜ Pushed (P·Project .meaning (now (project .entry))) (node-of (now (words .exit))) (latest-of (now (latest .exit))) r ⌝ }
+    ensures { λ r. ⌜ Pushed (P·Project .meaning (now (project .entry)))
+        (node-of (now (words .exit))) (latest-of (now (latest .exit))) r ⌝ }
 {
     let mut count = 0;
     'push: loop {

@@ -31,7 +31,8 @@ fn origin_of<P: Project>(project: &P, entry: Entry) -> u16
 fn gather<P: Project>(project: &P, words: &[u32], last: Node, chain: &mut [Entry]) -> usize
     requires { ⌜ Driven (P·Project .meaning (now project)) (now words) last ⌝ }
     requires { ⌜ entries-needed (P·Project .meaning (now project)) ≤ size (now chain) ⌝ }
-    ensures { λ r. ⌜ Gathered (P·Project .meaning (now (project .entry))) (now (chain .entry)) (now (chain .exit)) r ⌝ }
+    ensures { λ r. ⌜ Gathered (P·Project .meaning (now (project .entry)))
+        (now (chain .entry)) (now (chain .exit)) r ⌝ }
 {
     let mut node = last;
     chain[0] = node.entry;
@@ -52,7 +53,8 @@ fn gather<P: Project>(project: &P, words: &[u32], last: Node, chain: &mut [Entry
 // Turns the first entries round.
 fn turn(chain: &mut [Entry], length: usize)
     requires { ⌜ length ≤ size (now chain) ⌝ }
-    ensures { λ _. ⌜ now (chain .exit) ≡ reverse (take length (now (chain .entry))) ++ drop length (now (chain .entry)) ⌝ }
+    ensures { λ _. ⌜ now (chain .exit)
+        ≡ reverse (take length (now (chain .entry))) ++ drop length (now (chain .entry)) ⌝ }
 {
     chain[0..length].reverse();
 }
@@ -61,7 +63,8 @@ fn turn(chain: &mut [Entry], length: usize)
 pub fn write_chain<P: Project>(project: &P, words: &[u32], last: Node, chain: &mut [Entry]) -> u16
     requires { ⌜ Driven (P·Project .meaning (now project)) (now words) last ⌝ }
     requires { ⌜ entries-needed (P·Project .meaning (now project)) ≤ size (now chain) ⌝ }
-    ensures { λ r. ⌜ Explained (P·Project .meaning (now (project .entry))) (now (chain .entry)) (now (chain .exit)) r ⌝ }
+    ensures { λ r. ⌜ Explained (P·Project .meaning (now (project .entry)))
+        (now (chain .entry)) (now (chain .exit)) r ⌝ }
 {
     let length = gather(project, words, last, chain);
     turn(chain, length);

@@ -16,7 +16,8 @@ use Rattle.model.specs.Meaning.{Meaning, Bounds, price-fits}
 use Rattle.layers.specs.declared.lateness.Term.{Term}
 use Rattle.layers.specs.Layers.{Repricing, Keeps, repriced-at, raised, over, shut-by, late-by, cut, term-of}
 
-repriced-fits : (f : Repricing) (h a t d : ℕ) (p : Price) → Keeps f → h ≤ 255 → price-fits p ≡ true → price-fits (repriced-at f h a t d p) ≡ true
+repriced-fits : (f : Repricing) (h a t d : ℕ) (p : Price) → Keeps f → h ≤ 255 → price-fits p ≡ true
+    → price-fits (repriced-at f h a t d p) ≡ true
 repriced-fits f h a t d (Open p) k le fits = k h a t d p le fits
 repriced-fits f h a t d (Closed c) k le fits = fits
 

@@ -28,7 +28,9 @@ pub fn price_under_three<P: Project + Drop>(
     activity: u16,
     slot: Slot,
 ) -> Option<Price>
-    ensures { λ r. ⌜ r ≡ price-of (over (shut-by («shut_too» .shut)) (over (late-by (late .terms)) (over (shut-by (shut .shut)) (P·Project .meaning below)))) activity (slot .0) ⌝ }
+    ensures { λ r. ⌜ r ≡ price-of
+        (over (shut-by («shut_too» .shut)) (over (late-by (late .terms)) (over (shut-by (shut .shut)) (P·Project .meaning below))))
+        activity (slot .0) ⌝ }
 {
     let first = Layered { below, rule: shut };
     let second = Layered {

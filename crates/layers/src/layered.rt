@@ -39,7 +39,8 @@ fn raise(height: u8) -> u8
 pub impl<P: Project, R: Rule> Project for Layered<P, R> as LayeredProject {
     ghost meaning = { λ x. over (R·Rule .repricing (x .rule)) (P·Project .meaning (x .below)) };
 
-    ghost bounded = { λ x. over-kept (R·Rule .repricing (x .rule)) (P·Project .meaning (x .below)) (R·Rule .keeps (x .rule)) (P·Project .bounded (x .below)) };
+    ghost bounded = { λ x. over-kept (R·Rule .repricing (x .rule)) (P·Project .meaning (x .below))
+        (R·Rule .keeps (x .rule)) (P·Project .bounded (x .below)) };
 
     fn count(&self) -> u16 {
         self.below.count()

@@ -1,0 +1,9 @@
+pub mod Sums
+pub mod Cuts
+pub mod Duals
+pub mod Pushes
+pub mod Turning
+pub mod Ways
+pub mod Searches
+pub mod Sames
+pub mod Asking

@@ -1,0 +1,9 @@
+pub mod Sums
+pub mod Nets
+pub mod Answers
+pub mod Cuts
+pub mod Pushes
+pub mod Ways
+pub mod Turning
+pub mod Searches
+pub mod Unhindering

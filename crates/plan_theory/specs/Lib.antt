@@ -1,0 +1,4 @@
+pub mod TimeNetwork
+pub mod TimeArcs
+pub mod TimeBounds
+pub mod Plans
