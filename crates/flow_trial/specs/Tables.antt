@@ -66,6 +66,10 @@ table-bounds x =
       capacity-limit = λ k l. amount-limit (entry-of x k .capacity);
     }
 
+-- what is told of arc k, with its far end
+abbrev pub step-at : ℕ → ℕ → Step
+step-at k v = record { arc = k; node = v; next = k + 1 }
+
 -- the first of m arcs from c on whose near end is v
 abbrev pub scan : (near far : ℕ → ℕ) → ℕ → ℕ → ℕ → Option Step
 scan near far v zero c = None

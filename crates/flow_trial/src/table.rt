@@ -59,6 +59,18 @@ fn head(table: &Table, k: usize) -> usize
     node(table, entry(table, k).head)
 }
 
+/// What is told of an arc: the next cursor is past it.
+fn told(arc: usize, node: usize) -> Step
+    requires { ⌜ arc < 16 ⌝ }
+    ensures { λ r. ⌜ r ≡ tables.step-at arc node ⌝ }
+{
+    Step {
+        arc,
+        node,
+        next: arc + 1,
+    }
+}
+
 pub impl Network for Table as TableNetwork {
     type At = usize;
 
@@ -109,11 +121,7 @@ pub impl Network for Table as TableNetwork {
     fn leaving(&self, at: usize, cursor: usize) -> Option<Step> {
         for k in cursor..self.used.min(16) {
             if tail(self, k) == at {
-                return Some(Step {
-                    arc: k,
-                    node: head(self, k),
-                    next: k + 1,
-                });
+                return Some(told(k, head(self, k)));
             }
         }
         None
@@ -122,11 +130,7 @@ pub impl Network for Table as TableNetwork {
     fn entering(&self, at: usize, cursor: usize) -> Option<Step> {
         for k in cursor..self.used.min(16) {
             if head(self, k) == at {
-                return Some(Step {
-                    arc: k,
-                    node: tail(self, k),
-                    next: k + 1,
-                });
+                return Some(told(k, tail(self, k)));
             }
         }
         None

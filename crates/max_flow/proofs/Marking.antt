@@ -9,9 +9,9 @@ use lib.Dec.{eqb, ltb}
 use lib.ListN.{length, getD, take, drop, replicate}
 use Rattle.std.proofs.shelf.Lists.{getD-append-left, drop-at, take-append-drop}
 use Rattle.std.proofs.shelf.Tests.{ltb-true, ltb-false, lt-ltb, le-ltb, eq-eqb, ne-eqb, both-ways, cases-bool}
-use Rattle.flow.specs.Nets.{Net, Bounds, Reached, Unhindered, word}
+use Rattle.flow.specs.Nets.{Net, Bounds, IsFlow, Reached, Unhindered, word}
 use Rattle.flow.specs.Cuts.{Finite, FiniteCut, Marks, across}
-use Rattle.flow.proofs.Duals.{marks-cut, unhindered-inside}
+use Rattle.flow.proofs.Duals.{marks-cut, no-flow-exceeds-a-cut, unhindered-inside}
 use Rattle.flow.proofs.Searches.{ranked-marks}
 use Rattle.flow.proofs.Sames.{flow-same, none-above-same, reached-same, finite-cut-same, across-same}
 use Rattle.max_flow.specs.Layout.{Four, rank-in}
@@ -38,6 +38,7 @@ pub maximum : (n : Net) → Bounds n → (flow ws ws′ : List ℕ) (w count : �
 maximum n b flow ws ws′ w count ec four (S, fin) c words =
     record {
       is-flow = c .is-flow;
+      no-flow-has-more = most;
       no-word-above-the-value = c .none-above;
       marks = mark;
       rest-zero = λ i l h. words i (omega arith) ∙ ap (λ t. cond t (min (getD ws i 0) 1) 0)
@@ -57,6 +58,9 @@ maximum n b flow ws ws′ w count ec four (S, fin) c words =
     cut : FiniteCut n (λ v. ltb 0 (rank-in ws v)) × (across n (λ v. ltb 0 (rank-in ws v)) (n .capacity) ≡ w)
     cut = marks-cut n (b .sound) (word flow) w (c .is-flow) (λ v. ltb 0 (rank-in ws v)) known
         (le-ltb 0 _ (omega (arith, c .sink)))
+
+    most : (g : ℕ → ℕ) (x : ℕ) → IsFlow n g x → x ≤ w
+    most g x i = omega (arith, no-flow-exceeds-a-cut n (b .sound) g x i (λ v. ltb 0 (rank-in ws v)) (cut .0), cut .1)
 
     same : (v : ℕ) → v < n .nodes → marked ws′ v ≡ ltb 0 (rank-in ws v)
     same v l = mark-test (rank-in ws v) (word ws′ v) (here v l)
@@ -78,6 +82,7 @@ pub maximum-in : (n : Net) → Bounds n → (flow nodes flow-past nodes-past : L
 maximum-in n b flow nodes flow-past nodes-past w len four m =
     record {
       is-flow = flow-same n (word flow) (word (flow ++ flow-past)) flows w (m .is-flow);
+      no-flow-has-more = m .no-flow-has-more;
       no-word-above-the-value = none-above-same n (word flow) (word (flow ++ flow-past)) flows w
           (m .no-word-above-the-value);
       marks = λ v l.

@@ -26,6 +26,7 @@ marked nodes v = eqb (word nodes v) 1
 -- a maximum flow of value w, and the marks of the nodes reached
 pub record Maximum (n : Net) (flow nodes : List ℕ) (w : ℕ) : Type 0 where
   pub is-flow : IsFlow n (word flow) w
+  pub no-flow-has-more : (g : ℕ → ℕ) (x : ℕ) → IsFlow n g x → x ≤ w
   pub no-word-above-the-value : NoneAbove n (word flow) w
   pub marks : (v : ℕ) → v < n .nodes → IsMark n (word flow) v (word nodes v)
   pub rest-zero : (i : ℕ) → n .nodes ≤ i → i < 4 * n .nodes → word nodes i ≡ 0

@@ -37,17 +37,18 @@ fn drain(flow: &mut [u64])
     }
 }
 
-/// The mark of a node with a rank; 0 for a word of another part.
-fn mark_of(word: u32, ranked: bool) -> u32
-    ensures { λ r. ⌜ r ≡ cond ranked (min word 1) 0 ⌝ }
+/// The mark of a node by its rank; 0 for a word of another part.
+fn mark_of(rank: u32, node: bool) -> u32
+    ensures { λ r. ⌜ r ≡ cond node (min rank 1) 0 ⌝ }
 {
-    if ranked { word.min(1) } else { 0 }
+    if node { rank.min(1) } else { 0 }
 }
 
 /// Marks the ranked among the first nodes with 1, and leaves 0 everywhere else.
 fn mark(nodes: &mut [u32], count: usize)
     ensures { λ _. ⌜
-        ((i : ℕ) → i < length (now (nodes .entry)) → getD (now (nodes .exit)) i 0 ≡ cond (ltb i count) (min (getD (now (nodes .entry)) i 0) 1) 0)
+        ((i : ℕ) → i < length (now (nodes .entry))
+        → getD (now (nodes .exit)) i 0 ≡ cond (ltb i count) (min (getD (now (nodes .entry)) i 0) 1) 0)
         ⌝ }
 {
     for i in 0..nodes.len() {

@@ -1,9 +1,5 @@
 use native.Mathlib.Omega.{arith}
-use mathlib.Core.Path.{subst}
-use Prim.Native.Nat.{ℕ}
 use Rattle.flow.specs.Ways.{arrived}
-use Rattle.max_flow.specs.Stages.{WayIn}
-use Rattle.max_flow.proofs.Deepening.{Deepening, deepening-same}
 use Rattle.max_flow.proofs.deepen.deepen.Needs as need
 
 pub loop-holds : need.loop-holds

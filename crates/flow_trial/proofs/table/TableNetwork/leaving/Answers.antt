@@ -4,7 +4,7 @@ use mathlib.Core.Path.{_∙_, _≡_, sym, ap}
 use Rattle.std.specs.declared.option.Option.{Option}
 use Rattle.std.specs.declared.option.Option.the-variants.{Some, None}
 use Rattle.flow.specs.declared.network.Step.{Step}
-use Rattle.flow_trial.specs.Tables.{table-net}
+use Rattle.flow_trial.specs.Tables.{table-net, step-at}
 use Rattle.flow_trial.proofs.Listing.{listed-here, listed-more, listed-none}
 use Rattle.flow_trial.proofs.table.TableNetwork.leaving.Needs as need
 
@@ -12,7 +12,7 @@ pub returns-then-tail-at : need.returns-then-tail-at
 returns-then-tail-at c =
     let n = table-net (c .args .self .now) in
     let k = c .loop-k .k in
-    ap (λ (v : ℕ). Some (record { arc = k; node = v; next = k + 1 })) (c .head .ensures)
+    ap Some (c .told .ensures ∙ ap (step-at k) (c .head .ensures))
     ∙ sym (c .loop-k .inv ∙ listed-here (n .tail) (n .head) (n .arcs) (c .args .at) k (omega arith)
     (sym (c .tail .ensures) ∙ c .if-tail-at .taken))
 

@@ -1,0 +1,13 @@
+pub mod Seeking
+pub mod Held
+pub mod Agreement
+pub mod Meant
+pub mod Listing
+pub mod Points
+pub mod Telling
+pub mod Leaving
+pub mod CutOff
+pub mod Landing
+pub mod Adjacency
+pub mod Answered
+pub mod Making
