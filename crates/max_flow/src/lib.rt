@@ -21,7 +21,7 @@
 //
 // The sink has the last of all ranks and never waits in the queue. In the end the first part has the marks
 // and the others are 0.
-pub mod augment;
-pub mod deepen;
+mod augment;
+mod deepen;
 pub mod engine;
-pub mod search;
+mod search;

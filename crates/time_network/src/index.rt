@@ -3,7 +3,9 @@
 /// An end of a lag.
 #[derive(Clone, Copy)]
 pub enum End {
+    /// The activity that it leads from.
     From,
+    /// The activity that it leads to.
     To,
 }
 
@@ -11,6 +13,8 @@ pub enum End {
 /// there. The count of lags stands for none.
 #[derive(Clone, Copy)]
 pub struct Index {
+    /// By activity.
     pub first: [u16; 256],
+    /// By lag.
     pub next: [u16; 256],
 }

@@ -11,6 +11,7 @@ use flow::network::Capacity;
 use flow::network::Network;
 use flow::network::Step;
 
+/// Each answer takes a fixed number of steps, but that an entering arc passes over lags that have none there.
 pub impl Network for TimeNetwork as TimeNetworkNetwork {
     type At = Place;
 

@@ -21,6 +21,8 @@ pub enum Place {
 /// An end of the network, where slots before the first and past the last are cut off.
 #[derive(Clone, Copy)]
 pub enum Side {
+    /// Slots before the first.
     AtSource,
+    /// Slots past the last.
     AtSink,
 }
