@@ -189,6 +189,12 @@ lags-clear m s x =
     leZ-from : (p q : ℤ) → p ≤ℤ q → leZ p q ≡ true
     leZ-from p q l = grind (arith, ints)
 
+taken : (n : ℕ) (xs : List ℕ) → n ≤ length xs → length (take n xs) ≡ n
+taken n xs l = simp length-take (omega arith)
+
+taken-from : (n : ℕ) (xs : List ℕ) → length (take n xs) ≡ n → n ≤ length xs
+taken-from n xs e = omega (arith, simp length-take at e)
+
 -- no fault exactly when the flow accounts for the cost
 module _ (m : Meaning) (b : Bounds m) (bytes f : List ℕ) where
   accounts-of : check-fault m bytes f ≡ None → (w : ℕ) × Accounts m bytes f w
@@ -202,11 +208,10 @@ module _ (m : Meaning) (b : Bounds m) (bytes f : List ℕ) where
       let nodes = or-parts _ _ (words .1) in
       let bytes-there : m .n ≤ length bytes = leb-true _ _ (holds-from _ _ (lengths .0)) in
       let words-there : arcs-of m ≤ length f = leb-true _ _ (holds-from _ _ (lengths .1)) in
-      let meeting = meets-of m s (simp length-take (omega arith)) (starts .0) (lags .0) in
+      let meeting = meets-of m s (taken (m .n) bytes bytes-there) (starts .0) (lags .0) in
       let worth = worth-from m s f meeting (holds-from _ _ (nodes .1)) in (
         excess m s,
         record {
-          enough-bytes = bytes-there;
           enough-words = words-there;
           meeting = meeting;
           none-above = carried-of m f b words-there (words .0) .low;
@@ -220,7 +225,7 @@ module _ (m : Meaning) (b : Bounds m) (bytes f : List ℕ) where
       let s = take (m .n) bytes in
       let same : w ≡ excess m s = same-worth w (excess m s) (cost m s) (floors m) (x .costs) (cost-above m s (x .meeting)) in
       or-both _ _
-      (or-both _ _ (cond-true _ _ _ (le-leb _ _ (x .enough-bytes))) (cond-true _ _ _ (le-leb _ _ (x .enough-words))))
+      (or-both _ _ (cond-true _ _ _ (le-leb _ _ (taken-from (m .n) bytes (x .meeting .one-each)))) (cond-true _ _ _ (le-leb _ _ (x .enough-words))))
       (or-both _ _ (starts-clear m s (x .meeting))
       (or-both _ _ (lags-clear m s (x .meeting))
       (or-both _ _ (words-clear m f w (x .a-flow) (x .none-above))

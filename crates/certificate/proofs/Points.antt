@@ -19,7 +19,7 @@ use Rattle.plan_theory.specs.TimeNetwork.{point, cut-to, time-net, on-arc, back
 use Rattle.plan_theory.specs.TimeArcs.{on-tail, on-head, back-tail, back-head, lag-tail-is, lag-head-is, point-inner, point-past}
 use Rattle.plan_theory.proofs.Rows.{sumTo-split, sumTo-rows}
 use Rattle.certificate.specs.Faults.{inner-nodes}
-use Rattle.certificate.specs.Sums.{lag-out, lag-in, lag-to-source, first-words}
+use Rattle.certificate.specs.Sums.{lag-out, lag-in, out-of, in-to, out-of-source, lag-to-source, first-words}
 
 -- of the words of a row, the one that passes a test
 pub pick-row : (p : Bool) (q : ℕ → Bool) (g : ℕ → ℕ) (i h : ℕ) → i < h → q i ≡ true
@@ -174,23 +174,23 @@ module _ (m : Meaning) (f : List ℕ) (a t : ℕ) (la : a < m .n) (some : 0 < t)
       (point-same (m .horizon) a t (m .lag k .to) (cut-to (m .horizon) (pos j +ℤ m .lag k .gap)) some lt))
 
   -- what leaves an inner point, and what enters it
-  pub outflow-at : outflow (time-net m) (word f) (point (m .horizon) a t)
-      ≡ word f (on-arc m a t) + (word f (back-arc m a (t - 1)) + sumTo (lag-out m f a t) (m .lags))
+  pub outflow-at : outflow (time-net m) (word f) (point (m .horizon) a t) ≡ out-of m f a t
   outflow-at =
       let lags = sumTo-same _ (lag-out m f a t) (m .lags) (λ k l. lag-out-row k) in
       let on = here-rows m f a t la some lt (time-net m .tail) (on-arc m) (on-tail m) in
       let back = next-rows m f a t la some lt (time-net m .tail) (back-arc m) (back-tail m) in
+      let place : back-arc m a (t - 1) ≡ (m .n + a) * m .horizon + (t - 1) = omega arith in
       by-kinds m (λ k. pick (eqb (time-net m .tail k) (point (m .horizon) a t)) (word f k))
-      ∙ omega arith
+      ∙ omega (arith, ap (word f) place)
 
-  pub inflow-at : inflow (time-net m) (word f) (point (m .horizon) a t)
-      ≡ word f (on-arc m a (t - 1)) + (word f (back-arc m a t) + sumTo (lag-in m f a t) (m .lags))
+  pub inflow-at : inflow (time-net m) (word f) (point (m .horizon) a t) ≡ in-to m f a t
   inflow-at =
       let lags = sumTo-same _ (lag-in m f a t) (m .lags) (λ k l. lag-in-row k) in
       let on = next-rows m f a t la some lt (time-net m .head) (on-arc m) (on-head m) in
       let back = here-rows m f a t la some lt (time-net m .head) (back-arc m) (back-head m) in
+      let place : back-arc m a t ≡ (m .n + a) * m .horizon + t = omega arith in
       by-kinds m (λ k. pick (eqb (time-net m .head k) (point (m .horizon) a t)) (word f k))
-      ∙ omega arith
+      ∙ omega (arith, ap (word f) place)
 
 -- a cut slot that is neither source nor sink is the slot itself
 pub cut-is : (h : ℕ) (z : ℤ) (t : ℕ) → 0 < t → t < h → cut-to h z ≡ t → z ≡ pos t
@@ -263,8 +263,7 @@ module _ (m : Meaning) (f : List ℕ) (some : 0 < m .horizon) (end : ℕ → ℕ
       ∙ (point-source (m .horizon) i (j + 1) some ∙ ne-eqb (j + 1) 0 (λ e. omega arith)))
 
 module _ (m : Meaning) (f : List ℕ) (some : 0 < m .horizon) where
-  pub outflow-source : outflow (time-net m) (word f) 0
-      ≡ first-words f (m .horizon) 0 (m .n) + first-words f (m .horizon) (2 * m .n) (m .lags)
+  pub outflow-source : outflow (time-net m) (word f) 0 ≡ out-of-source m f
   outflow-source =
       let on = sumTo-same _ (λ i. word f ((0 + i) * m .horizon)) (m .n)
       (λ i li.
@@ -300,9 +299,6 @@ module _ (m : Meaning) (f : List ℕ) (some : 0 < m .horizon) where
 -- where the words of a row stand
 pub lag-place : (m : Meaning) (n k t : ℕ) → n ≡ m .n → (2 * n + k) * m .horizon + t ≡ lag-arc m k t
 lag-place m n k t en = rw en (omega arith)
-
-pub back-place : (m : Meaning) (n a t : ℕ) → n ≡ m .n → (n + a) * m .horizon + t ≡ back-arc m a t
-back-place m n a t en = rw en (omega arith)
 
 -- inner node i by activity and slot, under a horizon h
 pub record Node (m : Meaning) (h i : ℕ) : Type 0 where

@@ -17,7 +17,6 @@ use Rattle.certificate.specs.Faults.{arcs-of, word-limit}
 -- the first n start bytes meet the project, and the words are a flow of its time network that accounts
 -- for what these starts cost above the floors
 pub record Accounts (m : Meaning) (bytes flow : List ℕ) (w : ℕ) : Type 0 where
-  pub enough-bytes : m .n ≤ length bytes
   pub enough-words : arcs-of m ≤ length flow
   pub meeting : Meets m (take (m .n) bytes)
   pub none-above : (k : ℕ) → k < arcs-of m → word flow k ≤ word-limit

@@ -1,3 +1,3 @@
-pub mod Sums
 pub mod Faults
+pub mod Sums
 pub mod Accepting

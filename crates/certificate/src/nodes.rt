@@ -3,10 +3,10 @@
 ghost use mathlib.Core.Path.{_≡_};
 ghost use Prim.Native.Nat.{_+_, _*_, _<_, _≤_};
 ghost use Rattle.flow.specs.Sums.{sumTo};
-ghost use Rattle.flow.specs.Nets.{word, outflow, inflow};
-ghost use Rattle.plan_theory.specs.TimeNetwork.{time-net, point, lag-arc};
-ghost use Rattle.certificate.specs.Sums.{Carried, rows-of, lag-out, lag-in};
-ghost use Rattle.certificate.specs.Faults.{unless, inner-nodes, node-fault, nodes-fault};
+ghost use Rattle.flow.specs.Nets.{word};
+ghost use Rattle.plan_theory.specs.TimeNetwork.{lag-arc};
+ghost use Rattle.certificate.specs.Sums.{Carried, rows-of, lag-out, lag-in, out-of, in-to};
+ghost use Rattle.certificate.specs.Faults.{unless, word-limit, inner-nodes, node-fault, nodes-fault};
 use crate::starts::lag_at;
 use model::project::Project;
 use model::refusal::Fault;
@@ -18,7 +18,7 @@ pub fn row_word<P: Project>(project: &P, flow: &[u64], row: u16, slot: u16) -> u
     requires placed { ⌜ row < rows-of (P·Project .meaning (now project)) ⌝ }
     requires within { ⌜ slot < P·Project .meaning (now project) .horizon ⌝ }
     ensures value { λ r. ⌜ r ≡ word (now (flow .entry)) (row * P·Project .meaning (now (project .entry)) .horizon + slot) ⌝ }
-    ensures low { λ r. ⌜ r ≤ 128000000000 ⌝ }
+    ensures low { λ r. ⌜ r ≤ word-limit ⌝ }
 {
     flow[row as usize * project.horizon() as usize + slot as usize]
 }
@@ -29,7 +29,7 @@ pub fn lag_word<P: Project>(project: &P, flow: &[u64], number: u16, slot: u16) -
     requires known { ⌜ number < P·Project .meaning (now project) .lags ⌝ }
     requires within { ⌜ slot < P·Project .meaning (now project) .horizon ⌝ }
     ensures value { λ r. ⌜ r ≡ word (now (flow .entry)) (lag-arc (P·Project .meaning (now (project .entry))) number slot) ⌝ }
-    ensures low { λ r. ⌜ r ≤ 128000000000 ⌝ }
+    ensures low { λ r. ⌜ r ≤ word-limit ⌝ }
 {
     row_word(project, flow, 2 * project.count() + number, slot)
 }
@@ -40,7 +40,7 @@ fn lag_from<P: Project>(project: &P, flow: &[u64], activity: u16, slot: u16, num
     requires known { ⌜ number < P·Project .meaning (now project) .lags ⌝ }
     requires within { ⌜ slot < P·Project .meaning (now project) .horizon ⌝ }
     ensures value { λ r. ⌜ r ≡ lag-out (P·Project .meaning (now (project .entry))) (now (flow .entry)) activity slot number ⌝ }
-    ensures low { λ r. ⌜ r ≤ 128000000000 ⌝ }
+    ensures low { λ r. ⌜ r ≤ word-limit ⌝ }
 {
     if lag_at(project, number).from as u16 == activity {
         lag_word(project, flow, number, slot)
@@ -70,7 +70,7 @@ fn lag_to<P: Project>(project: &P, flow: &[u64], activity: u16, slot: u16, numbe
     requires past { ⌜ 0 < slot ⌝ }
     requires within { ⌜ slot < P·Project .meaning (now project) .horizon ⌝ }
     ensures value { λ r. ⌜ r ≡ lag-in (P·Project .meaning (now (project .entry))) (now (flow .entry)) activity slot number ⌝ }
-    ensures low { λ r. ⌜ r ≤ 128000000000 ⌝ }
+    ensures low { λ r. ⌜ r ≤ word-limit ⌝ }
 {
     let lag = lag_at(project, number);
     let before = slot as i32 - lag.gap as i32;
@@ -101,7 +101,7 @@ fn out_of_point<P: Project>(project: &P, flow: &[u64], activity: u16, slot: u16)
     requires present { ⌜ activity < P·Project .meaning (now project) .n ⌝ }
     requires past { ⌜ 0 < slot ⌝ }
     requires within { ⌜ slot < P·Project .meaning (now project) .horizon ⌝ }
-    ensures { λ r. ⌜ r ≡ outflow (time-net (P·Project .meaning (now (project .entry)))) (word (now (flow .entry))) (point (P·Project .meaning (now (project .entry)) .horizon) activity slot) ⌝ }
+    ensures { λ r. ⌜ r ≡ out-of (P·Project .meaning (now (project .entry))) (now (flow .entry)) activity slot ⌝ }
 {
     let on = row_word(project, flow, activity, slot);
     let back = row_word(project, flow, project.count() + activity, slot - 1);
@@ -114,7 +114,7 @@ fn into_point<P: Project>(project: &P, flow: &[u64], activity: u16, slot: u16) -
     requires present { ⌜ activity < P·Project .meaning (now project) .n ⌝ }
     requires past { ⌜ 0 < slot ⌝ }
     requires within { ⌜ slot < P·Project .meaning (now project) .horizon ⌝ }
-    ensures { λ r. ⌜ r ≡ inflow (time-net (P·Project .meaning (now (project .entry)))) (word (now (flow .entry))) (point (P·Project .meaning (now (project .entry)) .horizon) activity slot) ⌝ }
+    ensures { λ r. ⌜ r ≡ in-to (P·Project .meaning (now (project .entry))) (now (flow .entry)) activity slot ⌝ }
 {
     let on = row_word(project, flow, activity, slot - 1);
     let back = row_word(project, flow, project.count() + activity, slot);

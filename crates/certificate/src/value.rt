@@ -1,14 +1,12 @@
 // The value of the flow of a proposed plan, and what the plan costs above the floors.
 ghost use mathlib.Core.Path.{_≡_};
 ghost use Prim.Native.Nat.{_+_, _*_, _<_, _≤_};
-ghost use lib.ListN.{length};
-ghost use Rattle.model.specs.Starts.{start, floor};
 ghost use Rattle.model.specs.Chosen.{Meets};
 ghost use Rattle.flow.specs.Sums.{sumTo};
-ghost use Rattle.flow.specs.Nets.{word, outflow, inflow};
-ghost use Rattle.plan_theory.specs.TimeNetwork.{time-net, above};
-ghost use Rattle.certificate.specs.Faults.{unless, value-fault};
-ghost use Rattle.certificate.specs.Sums.{Carried, FloorsOf, rows-of, first-words, word-to-source, lag-to-source, above-floors};
+ghost use Rattle.flow.specs.Nets.{word, inflow};
+ghost use Rattle.plan_theory.specs.TimeNetwork.{time-net};
+ghost use Rattle.certificate.specs.Faults.{unless, word-limit, value-fault};
+ghost use Rattle.certificate.specs.Sums.{Carried, FloorsOf, rows-of, first-words, out-of-source, word-to-source, lag-to-source, above-floors};
 use crate::nodes::lag_word;
 use crate::nodes::row_word;
 use crate::starts::lag_at;
@@ -23,7 +21,7 @@ fn first_words<P: Project>(project: &P, flow: &[u64], row: u16, rows: u16) -> u6
     requires carried { ⌜ Carried (P·Project .meaning (now project)) (now flow) ⌝ }
     requires placed { ⌜ row + rows ≤ rows-of (P·Project .meaning (now project)) ⌝ }
     ensures value { λ r. ⌜ r ≡ first-words (now (flow .entry)) (P·Project .meaning (now (project .entry)) .horizon) row rows ⌝ }
-    ensures low { λ r. ⌜ r ≤ 128000000000 * rows ⌝ }
+    ensures low { λ r. ⌜ r ≤ word-limit * rows ⌝ }
 {
     let mut sum = 0;
     for i in 0..rows {
@@ -38,7 +36,7 @@ fn word_to_source<P: Project>(project: &P, flow: &[u64], number: u16, slot: u16)
     requires known { ⌜ number < P·Project .meaning (now project) .lags ⌝ }
     requires within { ⌜ slot < P·Project .meaning (now project) .horizon ⌝ }
     ensures value { λ r. ⌜ r ≡ word-to-source (P·Project .meaning (now (project .entry))) (now (flow .entry)) number slot ⌝ }
-    ensures low { λ r. ⌜ r ≤ 128000000000 ⌝ }
+    ensures low { λ r. ⌜ r ≤ word-limit ⌝ }
 {
     if slot as i32 + lag_at(project, number).gap as i32 > 0 {
         return 0;
@@ -76,7 +74,7 @@ fn lags_to_source<P: Project>(project: &P, flow: &[u64]) -> u64
 // What leaves the source, the first point of every activity.
 fn source_out<P: Project>(project: &P, flow: &[u64]) -> u64
     requires { ⌜ Carried (P·Project .meaning (now project)) (now flow) ⌝ }
-    ensures { λ r. ⌜ r ≡ outflow (time-net (P·Project .meaning (now (project .entry)))) (word (now (flow .entry))) 0 ⌝ }
+    ensures { λ r. ⌜ r ≡ out-of-source (P·Project .meaning (now (project .entry))) (now (flow .entry)) ⌝ }
 {
     let activities = project.count();
     let on = first_words(project, flow, 0, activities);

@@ -1,9 +1,9 @@
-use mathlib.Core.Path.{sym, ap, _∙_}
+use mathlib.Core.Path.{ap, _∙_}
 use native.Mathlib.Omega.{arith}
 use Rattle.std.specs.declared.result.Result.the-variants.{Err}
 use Rattle.certificate.proofs.Chains.{passes, fails}
-use Rattle.certificate.proofs.Points.{Node, node-of}
-use Rattle.certificate.proofs.Balances.{node-clear, node-bad}
+use Rattle.certificate.proofs.Points.{node-of}
+use Rattle.certificate.proofs.Balances.{node-clear, node-bad, nodes-low}
 use Rattle.certificate.proofs.nodes.check_node.Needs as need
 
 pub out-of-point-requires : need.out-of-point-requires
@@ -23,7 +23,7 @@ returns-then-out-of-point-into-point g c =
     let m = g .P·Project .meaning (c .args .project .now) in
     let n = node-of m (c .horizon-slots .result) (c .args .inner) (c .horizon-slots .ensures) (c .pre .placed) in
     passes _
-    (node-clear m (c .args .flow .now) _ _ (c .out-of-point .result) (c .into-point .result) (n .place)
+    (node-clear m (c .args .flow .now) (c .horizon-slots .result) (c .args .inner) (c .out-of-point .result) (c .into-point .result) n
     (c .out-of-point .ensures) (c .into-point .ensures) (c .if-out-of-point-into-point .taken))
 
 pub returns-else-out-of-point-into-point : need.returns-else-out-of-point-into-point
@@ -32,5 +32,12 @@ returns-else-out-of-point-into-point g c =
     let n = node-of m (c .horizon-slots .result) (c .args .inner) (c .horizon-slots .ensures) (c .pre .placed) in
     ap Err (c .at .ensures)
     ∙ fails _ _
-    (node-bad m (c .args .flow .now) _ _ (c .out-of-point .result) (c .into-point .result) (n .place)
+    (node-bad m (c .args .flow .now) (c .horizon-slots .result) (c .args .inner) (c .out-of-point .result) (c .into-point .result) n
     (c .out-of-point .ensures) (c .into-point .ensures) (c .if-out-of-point-into-point .left))
+
+pub add-inner : need.add-inner
+add-inner g c =
+    let m = g .P·Project .meaning (c .args .project .now) in
+    record {
+      fits = omega (arith, nodes-low m (g .P·Project .bounded (c .args .project .now)), c .pre .placed);
+    }
