@@ -1,4 +1,4 @@
-// Reads a table file from standard input and prints what is in it and the earliest starts,
+// Reads a table file from standard input and prints what is in it, the earliest and the cheapest starts,
 // or what is wrong with it and where.
 mod input;
 mod report;

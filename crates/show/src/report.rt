@@ -1,5 +1,5 @@
 // What is in a table file, printed for people: slots are shown as days.
-use crate::starts::print_earliest;
+use crate::starts::print_plans;
 use crate::wording::refusal_line;
 use crate::wording::relation_words;
 use model::floors::floor_of;
@@ -43,7 +43,7 @@ fn print_table(rt: &LibcRuntime, shape: Shape, table: &Table<'_>) -> io::Result<
     print_activities(rt, table)?;
     print_relations(rt, table)?;
     print_closed(rt, table)?;
-    print_earliest(rt, table)
+    print_plans(rt, table)
 }
 
 fn print_activities(rt: &LibcRuntime, table: &Table<'_>) -> io::Result<()> {
