@@ -28,7 +28,7 @@ pub fn marks_agree()
     ensures { λ _. ⌜ Marks-agree ⌝ }
 {}
 
-/// Flow pushed along a way, arc by arc from the sink, keeps a flow and adds to its value.
+/// Flow pushed along a way, arc by arc from the source, keeps a flow and adds to its value.
 pub fn pushing_keeps_a_flow()
     ensures begins { λ _. ⌜ Push-begins ⌝ }
     ensures along { λ _. ⌜ Push-along ⌝ }
