@@ -1,3 +1,4 @@
+#![tactic(auto)]
 // The earliest starts of any project, or a chain of reasons why there are none.
 pub mod chain;
 pub mod earliest;

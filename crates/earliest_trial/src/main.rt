@@ -1,3 +1,4 @@
+#![tactic(auto)]
 // Tries the earliest starts on some hundred small projects, bare and under layers, against a search of
 // every start list, and prints what came out.
 mod brute;

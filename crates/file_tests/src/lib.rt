@@ -1,3 +1,4 @@
+#![tactic(auto)]
 // Tests of opening table files, in a crate of their own so that the reader is not proved twice.
 use table_file::open::inspect;
 

@@ -1,3 +1,4 @@
+#![tactic(auto)]
 // Runs the engine on textbook networks and on random ones, each against the least capacity of all cuts.
 mod brute;
 mod random;

@@ -1,3 +1,4 @@
+#![tactic(auto)]
 // Layers that lie on any project and are projects themselves: a calendar of shut slots, and what
 // lateness costs.
 pub mod calendar;

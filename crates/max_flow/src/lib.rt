@@ -1,3 +1,4 @@
+#![tactic(auto)]
 // The maximum flow of any network, in lent memory alone.
 //
 // The method is Dinic's (1970), with the order of finding in place of levels. Repeat: search from the source

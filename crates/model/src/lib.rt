@@ -1,3 +1,4 @@
+#![tactic(auto)]
 // The vocabulary of planning: slots and days, prices, lags, refusals, what a project answers, and
 // what its earliest, cheapest and latest start lists are by definition.
 pub mod floors;

@@ -1,3 +1,4 @@
+#![tactic(auto)]
 // The theory of plans: a minimum cut of the time network of a project is a cheapest plan. Each theorem
 // is the contract of a function that does nothing.
 ghost use Rattle.plan_theory.specs.Plans.{TimeNetworkIsWithinBounds, MinimumCutIsCheapest, TurnedMinimumCutIsLatest, UnhinderedWhenNoneMeets, FlowVouchesForCost};

@@ -1,3 +1,4 @@
+#![tactic(auto)]
 // Reads a table file from standard input and prints what is in it, the earliest and the cheapest starts,
 // or what is wrong with it and where.
 mod input;

@@ -1,3 +1,4 @@
+#![tactic(auto)]
 // The reader of table files: opening tells the first fault or the shape; the opened table borrows the
 // file, answers as a project, and hands out its sections as parts of the file.
 pub mod examples;

@@ -1,3 +1,4 @@
+#![tactic(auto)]
 // The time network of any project, as a network that answers quickly.
 pub mod agreement;
 mod entering;

@@ -21,7 +21,10 @@ returns-in-Some g c =
 pub write_starts-requires : goal.write_starts-requires
 write_starts-requires g c =
     let m = g.P.Project.meaning c.args.project.now in
-    (ready m c.push.new.words c.push.new.latest c.push.ensures.count c.push.ensures.state (omega arith) (omega (arith, (g.P.Project.bounded c.args.project.now).n_high)), c.requires.starts)
+    record {
+      ready = ready m c.push.new.words c.push.new.latest c.push.ensures.count c.push.ensures.state (omega arith) (omega (arith, (g.P.Project.bounded c.args.project.now).n_high));
+      project_in_bounds = c.requires.starts;
+    }
 
 pub returns-in-None : goal.returns-in-None
 returns-in-None g c =

@@ -7,10 +7,10 @@ use Rattle.earliest.proofs.push.push.Goals as goal
 use Rattle.earliest.proofs.push.push.Goals.{in-Some+else-node-horizon, in_default, in-Some-lag_step+else-node-horizon-2, in_default-lag_step}
 
 pub closed_step-requires : goal.closed_step-requires
-closed_step-requires g c = (
-  omega (arith, c.loop-activity-test.true, c.count-activity-end.ensures),
-  ready (g.P.Project.meaning c.args.project.now) c.loop-activity.words c.loop-activity.latest c.loop-activity.count c.loop-activity.invariant.0 (omega arith) (omega arith),
-)
+closed_step-requires g c = record {
+  activity_bound = omega (arith, c.loop-activity-test.true, c.count-activity-end.ensures);
+  ready = ready (g.P.Project.meaning c.args.project.now) c.loop-activity.words c.loop-activity.latest c.loop-activity.count c.loop-activity.invariant.0 (omega arith) (omega arith);
+}
 
 pub overflow_add-count : goal.overflow_add-count
 overflow_add-count g c =
@@ -54,10 +54,10 @@ loop-activity-preserved g c =
     ]
 
 pub lag_step-requires : goal.lag_step-requires
-lag_step-requires g c = (
-  omega (arith, c.loop-number-test.true, c.lag_count-number-end.ensures),
-  ready (g.P.Project.meaning c.args.project.now) c.loop-number.words c.loop-number.latest c.loop-number.count c.loop-number.invariant.0 (omega arith) (omega arith),
-)
+lag_step-requires g c = record {
+  number_bound = omega (arith, c.loop-number-test.true, c.lag_count-number-end.ensures);
+  ready = ready (g.P.Project.meaning c.args.project.now) c.loop-number.words c.loop-number.latest c.loop-number.count c.loop-number.invariant.0 (omega arith) (omega arith);
+}
 
 pub overflow_add-count-in-Some-lag_step : goal.overflow_add-count-in-Some-lag_step
 overflow_add-count-in-Some-lag_step g c =

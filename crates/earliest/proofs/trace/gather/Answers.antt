@@ -7,12 +7,12 @@ use Rattle.earliest.proofs.trace.gather.Goals as goal
 pub loop-node-init : goal.loop-node-init
 loop-node-init g c =
     let m = g.P.Project.meaning c.args.project.now in
-    walk_start m c.args.words.now c.args.last c.args.chain.now (g.P.Project.bounded c.args.project.now) c.requires.0 (omega (arith, c.requires.1))
+    walk_start m c.args.words.now c.args.last c.args.chain.now (g.P.Project.bounded c.args.project.now) c.requires.driven (omega (arith, c.requires.project_bound))
 
 pub node_at-node-requires : goal.node_at-node-requires
 node_at-node-requires g c =
     let m = g.P.Project.meaning c.args.project.now in
-    walk_node m c.args.words.now _ c.loop-node.chain c.loop-node.length c.loop-node.node c.requires.0.room c.loop-node.invariant
+    walk_node m c.args.words.now _ c.loop-node.chain c.loop-node.length c.loop-node.node c.requires.driven.room c.loop-node.invariant
 
 pub offset_bounds-chain-length : goal.offset_bounds-chain-length
 offset_bounds-chain-length g c =
@@ -28,7 +28,7 @@ bounds-chain-length g c =
     let m = g.P.Project.meaning c.args.project.now in
     let b = g.P.Project.bounded c.args.project.now in
     let room = walk_room m c.args.words.now (set c.args.chain.now 0 c.args.last.entry) c.loop-node.chain c.loop-node.length c.loop-node.node b c.loop-node.invariant in
-    omega (arith, room, c.requires.1, c.loop-node.auto.chain, length-set c.args.chain.now 0 c.args.last.entry)
+    omega (arith, room, c.requires.project_bound, c.loop-node.auto.chain, length-set c.args.chain.now 0 c.args.last.entry)
 
 pub overflow_add-length : goal.overflow_add-length
 overflow_add-length g c =
@@ -53,7 +53,7 @@ bounds-chain-length-2 g c =
     let m = g.P.Project.meaning c.args.project.now in
     let b = g.P.Project.bounded c.args.project.now in
     let room = walk_room m c.args.words.now (set c.args.chain.now 0 c.args.last.entry) c.loop-node.chain c.loop-node.length c.loop-node.node b c.loop-node.invariant in
-    omega (arith, room, c.requires.1, c.loop-node.auto.chain, length-set c.args.chain.now 0 c.args.last.entry)
+    omega (arith, room, c.requires.project_bound, c.loop-node.auto.chain, length-set c.args.chain.now 0 c.args.last.entry)
 
 pub overflow_add-result : goal.overflow_add-result
 overflow_add-result g c =
@@ -75,7 +75,7 @@ loop-node-preserved g c =
     let m = g.P.Project.meaning c.args.project.now in
     let b = g.P.Project.bounded c.args.project.now in
     let room = walk_room m c.args.words.now (set c.args.chain.now 0 c.args.last.entry) c.loop-node.chain c.loop-node.length c.loop-node.node b c.loop-node.invariant in
-    let lt : c.loop-node.length < length c.loop-node.chain = omega (arith, room, c.requires.1, c.loop-node.auto.chain, length-set c.args.chain.now 0 c.args.last.entry) in
+    let lt : c.loop-node.length < length c.loop-node.chain = omega (arith, room, c.requires.project_bound, c.loop-node.auto.chain, length-set c.args.chain.now 0 c.args.last.entry) in
     walk_more m c.args.words.now (set c.args.chain.now 0 c.args.last.entry) c.loop-node.chain c.loop-node.length c.loop-node.node c.node_at-node.result lt c.loop-node.invariant (omega (arith, c.loop-node-test.true)) c.node_at-node.ensures
 
 pub returns : goal.returns
@@ -83,6 +83,6 @@ returns g c =
     let m = g.P.Project.meaning c.args.project.now in
     let b = g.P.Project.bounded c.args.project.now in
     let room = walk_room m c.args.words.now (set c.args.chain.now 0 c.args.last.entry) c.loop-node.chain c.loop-node.length c.loop-node.node b c.loop-node.invariant in
-    let lt : c.loop-node.length < length c.loop-node.chain = omega (arith, room, c.requires.1, c.loop-node.auto.chain, length-set c.args.chain.now 0 c.args.last.entry) in
+    let lt : c.loop-node.length < length c.loop-node.chain = omega (arith, room, c.requires.project_bound, c.loop-node.auto.chain, length-set c.args.chain.now 0 c.args.last.entry) in
     gathered_on m c.args.chain.now _ c.args.last.entry (c.loop-node.length + 1) (omega arith)
     (walk_end m c.args.words.now (set c.args.chain.now 0 c.args.last.entry) c.loop-node.chain c.loop-node.length c.loop-node.node c.origin_of.result b lt c.loop-node.invariant c.loop-node-test.false c.origin_of.ensures)

@@ -14,7 +14,7 @@ returns-then-lands c =
     record { is = sym (seek_here test s.lag_count k yes) ∙ c.loop-k.invariant.2; there = c.loop-k.invariant.1 }
 
 -- what the list says of the next lag
-further : (c : goal.After-k·1)
+further : (c : goal.After-k-1)
     → Onward (meant c.args.self.now) c.args.at.activity (c.args.at.before + 1) c.loop-k.k (get_or c.args.self.now.ends.next c.loop-k.k 0)
 further c =
     let s = c.args.self.now in

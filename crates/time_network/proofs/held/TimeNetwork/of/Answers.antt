@@ -8,25 +8,17 @@ invariant_of-result g c =
     let b = g.P.Project.bounded c.args.project.now in
     let n = c.count-activities.ensures in
     let h = c.horizon-horizon.ensures in
-    let k = c.lag_count-lag_count.ensures in (
-      omega (arith, b.n_low),
-      (
-        omega (arith, b.n_high),
-        (
-          omega (arith, b.h_low),
-          (
-            omega (arith, b.h_high),
-            (
-              omega (arith, b.lags_ok),
-              (
-                lags_fit m b c.count-activities.result c.lag_count-lag_count.result c.lags_of-lags.result n k c.lags_of-lags.ensures,
-                (c.index_of-leads.ensures, (c.index_of-ends.ensures, tt)),
-              ),
-            ),
-          ),
-        ),
-      ),
-    )
+    let k = c.lag_count-lag_count.ensures in
+    record {
+      some = omega (arith, b.n_low);
+      few = omega (arith, b.n_high);
+      ahead = omega (arith, b.h_low);
+      near = omega (arith, b.h_high);
+      counted = omega (arith, b.lags_ok);
+      joined = lags_fit m b c.count-activities.result c.lag_count-lag_count.result c.lags_of-lags.result n k c.lags_of-lags.ensures;
+      leading = c.index_of-leads.ensures;
+      ending = c.index_of-ends.ensures;
+    }
 
 pub returns : goal.returns
 returns g c =
