@@ -1,9 +1,8 @@
 -- What the parts of a check that find no fault tell of a plan, and the other way round.
-use Rattle.std.proofs.Common.{◌≡◌, ℕ, zero, suc, ◌+◌, ◌-◌, ◌*◌, ◌<◌, ◌≤◌, Bool, true, false, cond, ◌&&◌, eqb, ltb, leb, List, length, take, ℤ, pos, negsuc, ◌+ℤ◌, ◌-ℤ◌, ◌≤ℤ◌, Some, None, Ok, Err, Option, Result, sym, refl, ap, ◌∙◌, subst, ⊎_elim, arith, length-take}
+use Rattle.std.proofs.Common.{◌≡◌, ℕ, zero, suc, ◌+◌, ◌-◌, ◌<◌, ◌≤◌, Bool, true, false, cond, ltb, List, length, take, ℤ, pos, negsuc, ◌+ℤ◌, ◌-ℤ◌, ◌≤ℤ◌, Some, None, Option, Result, sym, refl, ap, ◌∙◌, subst, ⊎_elim, arith, length-take}
 use lib.Signed.{le_z}
 use Rattle.std.proofs.lemmas.Int.{ints}
-use Rattle.std.proofs.lemmas.Bool.{eq-eqb, eqb-true, le-leb, leb-true, lt-ltb, ltb-true, cond-true, cond-false, cond_both, and_from, and_parts, both_ways, cases_Bool, cases_eq}
-use Rattle.model.specs.declared.price.Price.{Price}
+use Rattle.std.proofs.lemmas.Bool.{eq-eqb, eqb-true, le-leb, leb-true, lt-ltb, ltb-true, cond-true, cond-false, cond_both, and_from, and_parts, cases_Bool, cases_eq}
 use Rattle.model.specs.declared.refusal.Fault.TheVariants.{ValueDiffers}
 use Rattle.model.specs.declared.refusal.Refusal.{Refusal}
 use Rattle.model.specs.Refusals.{refuse}
@@ -16,7 +15,7 @@ use Rattle.plan_theory.specs.TimeNetwork.{time_net}
 use Rattle.plan_theory.specs.TimeBounds.{time_bounds}
 use Rattle.plan_theory.proofs.Floors.{excess, cost_above}
 use Rattle.plan_theory.proofs.Plans.{flow_vouches_for_cost}
-use Rattle.certificate.specs.Faults.{or_else, each, unless_holds, arcs_of, inner_nodes, most, word_limit, start_fault, lag_fault, word_fault, node_fault, same_number, value_of, value_fault, starts_fault, lags_fault, words_fault, nodes_fault, check_fault, check_answer}
+use Rattle.certificate.specs.Faults.{or_else, each, arcs_of, inner_nodes, most, word_limit, start_fault, lag_fault, word_fault, node_fault, same_number, value_of, value_fault, starts_fault, lags_fault, words_fault, nodes_fault, check_fault, check_answer}
 use Rattle.certificate.specs.Accepting.{Accounts, PassesExactly, PassedIsCheapest}
 use Rattle.certificate.proofs.Chains.{clear, passes}
 use Rattle.certificate.specs.Sums.{Carried, above_floors}

@@ -1,5 +1,5 @@
 -- What a project's answers say of its meaning.
-use Rattle.std.proofs.Common.{◌≡◌, ℕ, ◌<◌, Bool, true, false, cond, ltb, Some, None, Option, sym, refl, ap, ◌∙◌, subst}
+use Rattle.std.proofs.Common.{◌≡◌, ℕ, ◌<◌, Bool, cond, Some, None, ap, subst}
 use Rattle.std.proofs.lemmas.Bool.{lt-ltb}
 use Rattle.model.specs.declared.lag.Lag.{Lag}
 use Rattle.model.specs.Meaning.{Meaning, Bounds, LagWithin, lag_of}

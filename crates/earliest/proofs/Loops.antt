@@ -1,11 +1,11 @@
 -- The turns of the loops that push: what each step asks, and what a turn leaves.
-use Rattle.std.proofs.Common.{◌≡◌, ℕ, ◌+◌, ◌-◌, ◌*◌, ◌<◌, ◌≤◌, List, length, get_or, set, Some, None, Option, sym, refl, ap, ◌∙◌, subst, mul-le-mul, arith, below_more}
+use Rattle.std.proofs.Common.{◌≡◌, ℕ, ◌+◌, ◌-◌, ◌*◌, ◌<◌, ◌≤◌, List, length, set, sym, subst, mul-le-mul, arith}
 use Rattle.std.proofs.lemmas.List.{get_or-set_same, get_or-set_other}
 use Rattle.model.specs.Meaning.{Meaning, Bounds}
 use Rattle.earliest.specs.declared.nodes.Node.{Node}
 use Rattle.earliest.specs.Nodes.{node_of, Put}
 use Rattle.earliest.specs.Outcome.{words_needed}
-use Rattle.earliest.specs.Pushing.{latest_of, closed_step, lag_step, Ready, Pushes, State}
+use Rattle.earliest.specs.Pushing.{latest_of, Ready, Pushes, State}
 use Rattle.earliest.proofs.Steps.{pushed, nodes_few}
 
 pub few_fit : (m : Meaning) (nd : ℕ → Node) (la : ℕ → ℕ) (c : ℕ) → Bounds m → State m nd la c → c ≤ 8128

@@ -1,6 +1,5 @@
 -- What the end of the pushing tells: the earliest starts, or that no list meets.
-use Rattle.std.proofs.Common.{◌≡◌, ℕ, ◌+◌, ◌-◌, ◌*◌, ◌<◌, ◌≤◌, Bool, true, false, cond, ltb, List, [], ◌∷◌, ◌++◌, map, length, get_or, take, drop, replicate, ℤ, pos, ◌+ℤ◌, ◌≤ℤ◌, Some, None, Ok, Err, Decides, Option, Result, sym, refl, ap, ◌∙◌, subst, mul-le-mul, arith}
-use Rattle.std.specs.List.{range_with_len}
+use Rattle.std.proofs.Common.{◌≡◌, ℕ, ◌-◌, ◌*◌, ◌<◌, ◌≤◌, true, false, List, ◌++◌, length, take, drop, replicate, pos, ◌+ℤ◌, ◌≤ℤ◌, Some, None, Ok, Err, Decides, Option, Result, sym, refl, ap, ◌∙◌, subst, mul-le-mul, arith}
 use Rattle.std.proofs.lemmas.List.FromFn.{length-map-range_with_len, get_or-map-range_with_len}
 use Rattle.std.proofs.lemmas.List.{take_at, length-replicate, get_or-replicate}
 use Rattle.std.proofs.lemmas.Bool.{le-ltb}
@@ -9,12 +8,12 @@ use Rattle.model.specs.declared.refusal.Refusal.{Refusal}
 use Rattle.model.specs.Meaning.{Meaning, Bounds}
 use Rattle.model.specs.Refusals.{refuse}
 use Rattle.model.specs.Starts.{start, is_open, earliest}
-use Rattle.model.specs.Chosen.{Meets, Earliest, NoneMeets}
+use Rattle.model.specs.Chosen.{Earliest, NoneMeets}
 use Rattle.model.proofs.Search.{earliest_first, none_defined_exactly}
 use Rattle.earliest.specs.declared.chain.Entry.{Entry}
 use Rattle.earliest.specs.declared.nodes.Node.{Node}
 use Rattle.earliest.specs.Nodes.{node_of}
-use Rattle.earliest.specs.Outcome.{words_needed, entries_needed, Explained, Ending, impossible, found, refused, searched, ending, answer_of, place_of, says_impossible, starts_after, nodes_after, ChainAfter, Enough, Told, Outcome}
+use Rattle.earliest.specs.Outcome.{words_needed, entries_needed, Explained, Ending, impossible, found, searched, ending, answer_of, place_of, says_impossible, nodes_after, Enough, Told, Outcome}
 use Rattle.earliest.specs.Pushing.{bound, bounds, latest_of, State, Quiet, Fresh}
 use Rattle.earliest.proofs.Refute.{refute}
 use Rattle.earliest.proofs.Steps.{open_when_none, holds_when_none}

@@ -1,16 +1,16 @@
 -- Whoever follows a chain with a start list that meets finds each start at or after its entry's slot.
-use Rattle.std.proofs.Common.{◌≡◌, ℕ, ◌+◌, ◌<◌, ◌≤◌, Bool, true, false, List, [], ◌∷◌, ℤ, pos, negsuc, ◌+ℤ◌, ◌≤ℤ◌, sym, ap, ◌∙◌, subst, ⊎_elim, arith}
+use Rattle.std.proofs.Common.{◌≡◌, ℕ, ◌+◌, ◌<◌, ◌≤◌, true, false, List, [], ◌∷◌, ℤ, pos, negsuc, ◌+ℤ◌, ◌≤ℤ◌, sym, ap, ◌∙◌, subst, ⊎_elim, arith}
 use Rattle.std.proofs.lemmas.Int.{ints}
 use Rattle.std.proofs.lemmas.Bool.{cases_eq}
 use Rattle.model.specs.declared.price.Price.{Price}
-use Rattle.model.specs.declared.price.Price.TheVariants.{Open, Closed}
+use Rattle.model.specs.declared.price.Price.TheVariants.{Closed}
 use Rattle.model.specs.Meaning.{Meaning}
 use Rattle.model.specs.Starts.{start, is_open}
 use Rattle.model.specs.Chosen.{Meets, NoneMeets}
 use Rattle.earliest.specs.declared.chain.How.{How}
 use Rattle.earliest.specs.declared.chain.How.TheVariants.{Start, PastClosed, ByLag}
 use Rattle.earliest.specs.declared.chain.Entry.{Entry}
-use Rattle.earliest.specs.Chain.{cut_to, Leads, RunsOn, Opens, Chain, ChainsRefute}
+use Rattle.earliest.specs.Chain.{cut_to, Leads, RunsOn, Opens, ChainsRefute}
 
 -- cutting does not raise above what already bounds
 pub cut_below : (h : ℕ) (z : ℤ) (y : ℕ) → z ≤ℤ pos y → cut_to h z ≤ y

@@ -1,16 +1,13 @@
 -- What a push does to the state: each step is sound, and the state is kept.
-use Rattle.std.proofs.Common.{◌≡◌, ℕ, ◌+◌, ◌-◌, ◌*◌, ◌<◌, ◌≤◌, Bool, true, false, cond, ltb, List, ℤ, pos, ◌+ℤ◌, ◌≤ℤ◌, Some, None, Option, sym, refl, ap, ◌∙◌, subst, ⊎_elim, arith}
+use Rattle.std.proofs.Common.{◌≡◌, ℕ, ◌+◌, ◌-◌, ◌*◌, ◌<◌, ◌≤◌, Bool, true, false, cond, ltb, pos, ◌+ℤ◌, ◌≤ℤ◌, Some, None, Option, sym, refl, ap, ◌∙◌, subst, ⊎_elim, arith}
 use Rattle.std.proofs.lemmas.Bool.{cases_eq, ltb-true, ltb-false}
 use Rattle.model.specs.declared.price.Price.{Price}
 use Rattle.model.specs.declared.price.Price.TheVariants.{Open, Closed}
 use Rattle.model.specs.Meaning.{Meaning, Bounds}
 use Rattle.model.specs.Starts.{start, is_open}
-use Rattle.model.specs.Chosen.{Meets}
-use Rattle.earliest.specs.declared.chain.How.{How}
-use Rattle.earliest.specs.declared.chain.How.TheVariants.{Start, PastClosed, ByLag}
+use Rattle.earliest.specs.declared.chain.How.TheVariants.{PastClosed}
 use Rattle.earliest.specs.declared.nodes.Node.{Node}
-use Rattle.earliest.specs.Chain.{cut_to, Leads}
-use Rattle.earliest.specs.Pushing.{bound, past, closed_step, lag_slot, lag_node, lag_step, origin, Pushes, Sound, State, total}
+use Rattle.earliest.specs.Pushing.{bound, past, closed_step, lag_slot, lag_node, lag_step, origin, Pushes, Sound, State}
 use Rattle.earliest.proofs.Refute.{leads_on, cut_small, cut_kept}
 use Rattle.earliest.proofs.Totals.{total_more, total_most}
 

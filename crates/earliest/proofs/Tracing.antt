@@ -1,13 +1,12 @@
 -- From a node back to slot 0: what is gathered on the way, front to back, goes on to the horizon.
-use Rattle.std.proofs.Common.{◌≡◌, ℕ, ◌+◌, ◌<◌, ◌≤◌, Bool, true, false, ◌&&◌, eqb, ◌⊎◌, List, [], ◌∷◌, sym, refl, ap, ◌∙◌, subst, inl, inr, ⊎_elim, arith}
-use Rattle.std.proofs.lemmas.Bool.{cases_eq, ne_eqb, eq-eqb, and_left, and_right}
+use Rattle.std.proofs.Common.{◌≡◌, ℕ, ◌<◌, ◌≤◌, false, eqb, ◌⊎◌, List, [], ◌∷◌, sym, refl, ap, ◌∙◌, subst, inl, inr, ⊎_elim, arith}
+use Rattle.std.proofs.lemmas.Bool.{cases_eq, ne_eqb, and_left, and_right}
 use Rattle.model.specs.Meaning.{Meaning}
-use Rattle.earliest.specs.declared.chain.How.{How}
-use Rattle.earliest.specs.declared.chain.How.TheVariants.{Start, PastClosed, ByLag}
+use Rattle.earliest.specs.declared.chain.How.TheVariants.{Start}
 use Rattle.earliest.specs.declared.chain.Entry.{Entry}
 use Rattle.earliest.specs.declared.nodes.Node.{Node}
-use Rattle.earliest.specs.Chain.{Leads, RunsOn, Opens, same_point, NotAmong, Apart, Chain}
-use Rattle.earliest.specs.Pushing.{bound, origin, Pushes, Sound, State}
+use Rattle.earliest.specs.Chain.{Leads, RunsOn, same_point, NotAmong, Apart, Chain}
+use Rattle.earliest.specs.Pushing.{origin, Pushes, State}
 
 abbrev from : Meaning → Node → ℕ
 from m v = origin m v.entry.how v.entry.activity

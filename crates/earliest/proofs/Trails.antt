@@ -1,6 +1,6 @@
 -- The walk back, as a loop: entries written so far, and the node that it stands at.
-use Rattle.std.proofs.Common.{◌≡◌, ℕ, ◌+◌, ◌-◌, ◌*◌, ◌<◌, ◌≤◌, List, [], ◌∷◌, ◌++◌, reverse, length, take, drop, set, Some, sym, refl, ap, ◌∙◌, subst, mul-le-mul, mul-add, arith, length-set}
-use Rattle.std.proofs.lemmas.List.{reverse-append, take_more_set, drop-set-lt, drop-drop, take_at, drop_at, length-reverse, length-take-le, length-append, length-drop}
+use Rattle.std.proofs.Common.{◌≡◌, ℕ, ◌+◌, ◌-◌, ◌*◌, ◌<◌, ◌≤◌, List, [], ◌∷◌, ◌++◌, reverse, length, take, drop, set, sym, refl, ap, ◌∙◌, subst, mul-le-mul, mul-add, arith, length-set}
+use Rattle.std.proofs.lemmas.List.{reverse-append, take_more_set, drop-set-lt, drop-drop, take_at, drop_at, length-reverse, length-take-le, length-append}
 use Rattle.model.specs.Meaning.{Meaning, Bounds}
 use Rattle.earliest.specs.declared.chain.How.{How}
 use Rattle.earliest.specs.declared.chain.How.TheVariants.{Start, PastClosed, ByLag}
@@ -9,7 +9,7 @@ use Rattle.earliest.specs.declared.nodes.Node.{Node}
 use Rattle.earliest.specs.Chain.{Leads, Chain}
 use Rattle.earliest.specs.Nodes.{node_of}
 use Rattle.earliest.specs.Outcome.{words_needed, entries_needed, Explained}
-use Rattle.earliest.specs.Pushing.{State, Pushed, origin}
+use Rattle.earliest.specs.Pushing.{State, origin}
 use Rattle.earliest.specs.Tracing.{Known, Driven, Gathered}
 use Rattle.earliest.proofs.Steps.{nodes_few}
 use Rattle.earliest.proofs.Tracing.{Trail, trail_start, trail_more, trail_end, start_entry}

@@ -1,6 +1,5 @@
 -- Small projects that no start list meets, with the chains that show it.
 use Rattle.std.specs.Prelude.{ℕ, zero, suc, cond, List, [], ◌∷◌, ℤ, pos, nat_lt, slice_index, slice_index_or}
-use Rattle.model.specs.declared.price.Price.{Price}
 use Rattle.model.specs.declared.price.Price.TheVariants.{Open, Closed}
 use Rattle.model.specs.Meaning.{Meaning}
 use Rattle.earliest.specs.declared.chain.How.{How}

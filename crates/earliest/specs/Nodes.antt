@@ -1,7 +1,7 @@
 -- How nodes stand in lent words; callers need none of this. Four words each, node e from word 4·e on. A
 -- node is an entry that some chain may have, and the number of the node before it, 0 if that is the chain's
 -- first entry.
-use Rattle.std.specs.Prelude.{◌≡◌, ℕ, ◌+◌, ◌-◌, ◌*◌, min, Bool, cond, List, ◌==◌, ◌≢◌, nat_lt, slice_index}
+use Rattle.std.specs.Prelude.{◌≡◌, ℕ, ◌+◌, ◌-◌, ◌*◌, min, cond, List, ◌==◌, ◌≢◌, nat_lt, slice_index}
 use Rattle.earliest.specs.declared.chain.How.{How}
 use Rattle.earliest.specs.declared.chain.How.TheVariants.{Start, PastClosed, ByLag}
 use Rattle.earliest.specs.declared.nodes.Node.{Node}

@@ -1,6 +1,6 @@
 -- What asking for the earliest starts answers, and what it leaves in the memory lent to it: start bytes,
 -- node words and chain entries, of any lengths.
-use Rattle.std.specs.Prelude.{◌≡◌, ℕ, ◌+◌, ◌-◌, ◌*◌, ◌≤◌, Bool, true, false, cond, List, ◌++◌, length, take, drop, replicate, Some, None, Ok, Err, Decides, Option, Result, ◌==◌, nat_lt}
+use Rattle.std.specs.Prelude.{◌≡◌, ℕ, ◌+◌, ◌-◌, ◌*◌, ◌≤◌, Bool, false, cond, List, ◌++◌, length, take, drop, replicate, Some, None, Ok, Err, Decides, Option, Result, ◌==◌, nat_lt}
 use Rattle.model.specs.declared.refusal.Fault.TheVariants as fault
 use Rattle.model.specs.declared.refusal.Refusal.{Refusal}
 use Rattle.model.specs.Meaning.{Meaning}

@@ -1,7 +1,7 @@
 -- How the bounds are pushed up; callers need none of this. Each activity has a latest node, whose slot is
 -- the activity's bound: no list that meets the project starts the activity before it. Node 0 stands for
 -- slot 0 of any activity.
-use Rattle.std.specs.Prelude.{◌≡◌, ℕ, zero, suc, ◌+◌, ◌-◌, ◌*◌, ◌<◌, ◌≤◌, cond, List, map, length, pos, ◌+ℤ◌, Some, None, Option, nat_lt, slice_index}
+use Rattle.std.specs.Prelude.{◌≡◌, ℕ, zero, suc, ◌+◌, ◌*◌, ◌<◌, ◌≤◌, cond, List, map, length, pos, ◌+ℤ◌, Some, None, Option, nat_lt, slice_index}
 use Rattle.std.specs.List.{range_with_len}
 use Rattle.model.specs.declared.price.Price.{Price}
 use Rattle.model.specs.declared.price.Price.TheVariants.{Open, Closed}
@@ -10,7 +10,6 @@ use Rattle.model.specs.Starts.{start}
 use Rattle.model.specs.Chosen.{Meets}
 use Rattle.earliest.specs.declared.chain.How.{How}
 use Rattle.earliest.specs.declared.chain.How.TheVariants.{Start, PastClosed, ByLag}
-use Rattle.earliest.specs.declared.chain.Entry.{Entry}
 use Rattle.earliest.specs.declared.nodes.Node.{Node}
 use Rattle.earliest.specs.Chain.{cut_to, Leads}
 use Rattle.earliest.specs.Outcome.{words_needed}

@@ -3,8 +3,8 @@ use Rattle.std.proofs.Common.{◌≡◌, ℕ, ◌<◌, Bool, true, false, cond, 
 use Rattle.std.proofs.lemmas.Bool.{ltb-true, ltb-false, lt-ltb}
 use Rattle.flow.specs.declared.network.Step.{Step}
 use Rattle.flow.specs.declared.network.Capacity.{Capacity}
-use Rattle.flow.specs.Nets.{Net, Sound, Bounds, room}
-use Rattle.flow.specs.Answers.{arc_at, arc_of, capacity_at, capacity_of, has_room, Names, Lists, Looked, Asked}
+use Rattle.flow.specs.Nets.{Net, Bounds, room}
+use Rattle.flow.specs.Answers.{arc_at, arc_of, capacity_at, capacity_of, has_room, Lists, Looked, Asked}
 use Rattle.flow.proofs.Ways.{has_room_is}
 
 pub looked : (n : Net) → Bounds n → (k : ℕ) → Looked n k (arc_of n k)

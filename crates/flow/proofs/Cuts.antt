@@ -1,9 +1,9 @@
 -- The value of a flow crosses every cut.
-use Rattle.std.proofs.Common.{◌≡◌, ℕ, zero, suc, ◌+◌, ◌<◌, ◌≤◌, Bool, true, false, cond, not, ◌&&◌, eqb, ◌⊎◌, sym, refl, ap, ◌∙◌, subst, inl, inr, ⊎_elim, arith}
+use Rattle.std.proofs.Common.{◌≡◌, ℕ, ◌+◌, ◌<◌, Bool, true, false, not, ◌&&◌, eqb, sym, refl, ap, ◌∙◌, ⊎_elim, arith}
 use Rattle.std.proofs.lemmas.Bool.{eq-eqb, ne_eqb, cases_eq, true≢false}
 use Rattle.flow.specs.Sums.{sum_to, pick}
-use Rattle.flow.specs.Nets.{Net, Sound, IsFlow, outflow, inflow}
-use Rattle.flow.specs.Cuts.{across, back_across, IsCut, ValueCrossesEveryCut}
+use Rattle.flow.specs.Nets.{Net, Sound, outflow, inflow}
+use Rattle.flow.specs.Cuts.{across, back_across, ValueCrossesEveryCut}
 use Rattle.flow.proofs.Sums.{sum_to_same, sum_to_add, sum_to_swap, pick_sum_to, sum_to_only, sum_to_but}
 
 pub pick_zero : (b : Bool) → pick b 0 ≡ 0

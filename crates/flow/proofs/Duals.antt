@@ -1,11 +1,11 @@
 -- No value is above a cut; where nothing leads on, the two are equal; the least of the least cuts.
-use Rattle.std.proofs.Common.{◌≡◌, ℕ, zero, suc, ◌+◌, ◌<◌, ◌≤◌, Bool, true, false, cond, not, ◌&&◌, ◌||◌, eqb, ltb, ◌⊎◌, sym, refl, ap, ◌∙◌, subst, inl, inr, ⊎_elim, arith}
-use Rattle.std.proofs.lemmas.Bool.{eq-eqb, ne_eqb, cases_eq, true≢false, cases_Bool, or_left, or_right, or_from, or_parts, lt-ltb, ltb-true, ltb-false, or_cases, both_ways}
-use Rattle.flow.specs.Sums.{sum_to, pick}
+use Rattle.std.proofs.Common.{◌≡◌, ℕ, ◌+◌, ◌<◌, ◌≤◌, Bool, true, false, not, ◌&&◌, sym, refl, ap, ◌∙◌, ⊎_elim, arith}
+use Rattle.std.proofs.lemmas.Bool.{cases_eq, true≢false, cases_Bool, or_left, or_parts, ltb-true, ltb-false, or_cases, both_ways}
+use Rattle.flow.specs.Sums.{pick}
 use Rattle.flow.specs.Nets.{Net, Sound, IsFlow, room, Reached, source, along, back, Unhindered}
-use Rattle.flow.specs.Cuts.{across, back_across, IsCut, FiniteCut, Closed, Marks, NoFlowExceedsACut, ClosedCutHasTheValue, ReachedLiesInside, MarksAgree}
-use Rattle.flow.proofs.Sums.{sum_to_same, sum_to_le, sum_to_add, sum_to_zero, sum_to_at, sum_to_tight}
-use Rattle.flow.proofs.Cuts.{value_crosses_every_cut, pick_by}
+use Rattle.flow.specs.Cuts.{across, back_across, FiniteCut, Closed, Marks, NoFlowExceedsACut, ClosedCutHasTheValue, ReachedLiesInside, MarksAgree}
+use Rattle.flow.proofs.Sums.{sum_to_same, sum_to_le, sum_to_zero, sum_to_at, sum_to_tight}
+use Rattle.flow.proofs.Cuts.{value_crosses_every_cut}
 
 -- what counts over the arcs from a to not b
 pick_out_le : (a b : Bool) (x y : ℕ) → (a ≡ true → b ≡ false → x ≤ y) → pick (a && not b) x ≤ pick (a && not b) y

@@ -1,9 +1,9 @@
 -- A push keeps a flow, arc by arc.
-use Rattle.std.proofs.Common.{◌≡◌, ℕ, zero, suc, ◌+◌, ◌<◌, ◌≤◌, Bool, true, false, cond, not, ◌&&◌, ◌||◌, eqb, ltb, ◌⊎◌, sym, refl, ap, ◌∙◌, subst, inl, inr, ⊎_elim, arith}
+use Rattle.std.proofs.Common.{◌≡◌, ℕ, ◌+◌, ◌<◌, ◌≤◌, Bool, true, false, eqb, sym, refl, ap, ◌∙◌, ⊎_elim, arith}
 use Rattle.std.proofs.lemmas.Bool.{eq-eqb, ne_eqb, cases_eq}
 use Rattle.flow.specs.Sums.{sum_to, pick}
-use Rattle.flow.specs.Nets.{Net, Sound, IsFlow, NoneAbove, outflow, inflow}
-use Rattle.flow.specs.Pushes.{Midway, Raised, PushBegins, PushAlong, PushAgainst, PushEnds}
+use Rattle.flow.specs.Nets.{Net, outflow, inflow}
+use Rattle.flow.specs.Pushes.{Raised, PushBegins, PushAlong, PushAgainst, PushEnds}
 use Rattle.flow.proofs.Sums.{sum_to_but}
 
 pick_add : (b : Bool) (x y : ℕ) → pick b (x + y) ≡ pick b x + pick b y

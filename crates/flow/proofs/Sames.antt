@@ -1,7 +1,7 @@
 -- Flows, reach and cuts depend on the words of the arcs and the marks of the nodes alone.
-use Rattle.std.proofs.Common.{◌≡◌, ℕ, ◌+◌, ◌<◌, ◌≤◌, Bool, true, false, not, ◌&&◌, ◌||◌, eqb, ltb, sym, refl, ap, ◌∙◌, subst, arith}
+use Rattle.std.proofs.Common.{◌≡◌, ℕ, ◌<◌, Bool, not, ◌&&◌, ◌||◌, eqb, ltb, sym, ap, ◌∙◌, arith}
 use Rattle.flow.specs.Sums.{sum_to, pick}
-use Rattle.flow.specs.Nets.{Net, Sound, IsFlow, NoneAbove, outflow, inflow, room, Reached, source, along, back}
+use Rattle.flow.specs.Nets.{Net, Sound, IsFlow, NoneAbove, Reached, source, along, back}
 use Rattle.flow.specs.Cuts.{across, FiniteCut}
 use Rattle.flow.proofs.Sums.{sum_to_same}
 

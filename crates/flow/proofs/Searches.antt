@@ -1,12 +1,12 @@
 -- What a search keeps, and what its ranks say once it has ended.
-use Rattle.std.proofs.Common.{◌≡◌, ℕ, zero, suc, ◌+◌, ◌*◌, ◌<◌, ◌≤◌, Bool, true, false, cond, not, ◌&&◌, ◌||◌, eqb, ltb, ◌⊎◌, sym, refl, ap, ◌∙◌, subst, inl, inr, ⊎_elim, arith}
-use Rattle.std.proofs.lemmas.Bool.{eq-eqb, ne_eqb, cases_eq, ltb-true, ltb-false, lt-ltb, le-ltb, or_left, or_cases}
+use Rattle.std.proofs.Common.{◌≡◌, ℕ, zero, suc, ◌+◌, ◌*◌, ◌<◌, ◌≤◌, Bool, true, false, not, ◌&&◌, eqb, ltb, ◌⊎◌, sym, refl, ap, ◌∙◌, subst, inl, inr, ⊎_elim, arith}
+use Rattle.std.proofs.lemmas.Bool.{eq-eqb, ne_eqb, cases_eq, ltb-true, lt-ltb, le-ltb, or_left, or_cases}
 use Rattle.flow.specs.Sums.{sum_to, pick}
 use Rattle.flow.specs.Nets.{Net, Sound, Bounds, room, IsFlow, NoneAbove, Reached, source, along, back, Unhindered}
-use Rattle.flow.specs.Cuts.{across, FiniteCut, Finite, Marks, Closed}
-use Rattle.flow.specs.Ways.{Put, Over, Against, Leads}
-use Rattle.flow.specs.Searches.{unranked, Finds, Found, Searching, Opens, Shut, Searched}
-use Rattle.flow.specs.Unhindering.{unbounded_only, unbounded_only_bounds}
+use Rattle.flow.specs.Cuts.{Finite, Marks, Closed}
+use Rattle.flow.specs.Ways.{Put, Leads}
+use Rattle.flow.specs.Searches.{unranked, Finds, Found, Searching, Opens, Searched}
+use Rattle.flow.specs.Unhindering.{unbounded_only}
 use Rattle.flow.proofs.Sums.{sum_to_but, sum_to_same, sum_to_le, sum_to_zero}
 use Rattle.flow.proofs.Duals.{no_flow_exceeds_a_cut, reached_in}
 

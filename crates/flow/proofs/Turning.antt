@@ -1,9 +1,9 @@
 -- Flows and cuts of the turned network.
-use Rattle.std.proofs.Common.{◌≡◌, ℕ, zero, suc, ◌+◌, ◌<◌, ◌≤◌, Bool, true, false, cond, not, ◌&&◌, eqb, ◌⊎◌, sym, refl, ap, ◌∙◌, subst, inl, inr, ⊎_elim, arith}
-use Rattle.std.proofs.lemmas.Bool.{eq-eqb, ne_eqb, eqb-true, eqb-false, cases_eq, cases_Bool, both_ways, true≢false, not-true, not-false, not_from_true, not_from_false}
+use Rattle.std.proofs.Common.{◌≡◌, ℕ, zero, suc, ◌+◌, ◌<◌, ◌≤◌, Bool, true, false, cond, not, ◌&&◌, eqb, sym, refl, ap, ◌∙◌, ⊎_elim, arith}
+use Rattle.std.proofs.lemmas.Bool.{eq-eqb, ne_eqb, eqb-true, eqb-false, cases_eq, cases_Bool, both_ways, not-true, not_from_false}
 use Rattle.flow.specs.Sums.{sum_to, pick}
-use Rattle.flow.specs.Nets.{Net, Sound, IsFlow, outflow, inflow}
-use Rattle.flow.specs.Cuts.{across, back_across, FiniteCut}
+use Rattle.flow.specs.Nets.{Net, Sound, outflow, inflow}
+use Rattle.flow.specs.Cuts.{across}
 use Rattle.flow.specs.Turning.{other, turned, far_side, other_other, TurnedFlowIsAFlow, TurnedCutIsACut}
 use Rattle.flow.proofs.Sums.{sum_to_same, sum_to_zero, sum_to_but}
 use Rattle.flow.proofs.Cuts.{crossing}

@@ -1,7 +1,7 @@
 -- Ways over links: how much they carry, what a push along one does, and how one is laid.
-use Rattle.std.proofs.Common.{◌≡◌, ℕ, zero, suc, ◌+◌, ◌-◌, ◌<◌, ◌≤◌, min, Bool, true, false, cond, ◌||◌, eqb, ltb, ◌⊎◌, List, length, get_or, set, sym, refl, ap, ◌∙◌, subst, inl, inr, ⊎_elim, arith}
+use Rattle.std.proofs.Common.{◌≡◌, ℕ, ◌+◌, ◌-◌, ◌<◌, ◌≤◌, min, Bool, true, false, cond, ◌||◌, ltb, ◌⊎◌, List, length, set, sym, refl, ap, ◌∙◌, subst, inl, inr, ⊎_elim, arith}
 use Rattle.std.proofs.lemmas.List.{get_or-set_same, get_or-set_other}
-use Rattle.std.proofs.lemmas.Bool.{cases_eq, ltb-true, both_ways}
+use Rattle.std.proofs.lemmas.Bool.{ltb-true, both_ways}
 use Rattle.flow.specs.declared.network.Arc.{Arc}
 use Rattle.flow.specs.declared.network.Capacity.TheVariants.{Bounded, Unbounded}
 use Rattle.flow.specs.Nets.{Net, Sound, Bounds, room, IsFlow, NoneAbove, word}

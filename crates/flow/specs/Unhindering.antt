@@ -5,7 +5,7 @@ use Rattle.flow.specs.declared.network.Step.{Step}
 use Rattle.flow.specs.declared.network.Capacity.{Capacity}
 use Rattle.flow.specs.declared.network.Capacity.TheVariants.{Bounded, Unbounded}
 use Rattle.flow.specs.Nets.{Net, Bounds}
-use Rattle.flow.specs.Answers.{Lists, Names, Adjacent}
+use Rattle.flow.specs.Answers.{Lists, Adjacent}
 
 abbrev pub unbounded_only : Net → Net
 unbounded_only n =

@@ -1,7 +1,6 @@
 -- The steps of a scan for the arcs of a node.
-use Rattle.std.proofs.Common.{◌≡◌, ℕ, zero, suc, ◌+◌, ◌-◌, ◌<◌, ◌≤◌, cond, eqb, Some, None, Option, sym, ap, ◌∙◌, arith}
+use Rattle.std.proofs.Common.{◌≡◌, ℕ, suc, ◌+◌, ◌-◌, ◌<◌, ◌≤◌, cond, Some, None, ap, ◌∙◌, arith}
 use Rattle.std.proofs.lemmas.Bool.{eq-eqb, ne_eqb}
-use Rattle.flow.specs.declared.network.Step.{Step}
 use Rattle.flow_trial.specs.Tables.{scan, listed}
 
 module _ (near far : ℕ → ℕ) (arcs v k : ℕ) where

@@ -1,14 +1,14 @@
 -- What a table of arcs means as a network, and how its answers list the arcs of a node: one by one, from
 -- the cursor on.
-use Rattle.std.specs.Prelude.{◌≡◌, ℕ, zero, suc, pred, ◌+◌, ◌-◌, ◌<◌, ◌≤◌, min, max, Bool, true, false, cond, ◌⊎◌, List, Some, None, Option, ◌==◌, slice_index_or, refl}
-use Rattle.std.proofs.Common.{arith, sym, ap, ◌∙◌, subst, inl, inr, ⊎_elim}
-use Rattle.std.proofs.lemmas.Bool.{eqb-true, eqb-false, eq-eqb, cases_eq, cases_lt}
+use Rattle.std.specs.Prelude.{◌≡◌, ℕ, zero, suc, ◌+◌, ◌-◌, ◌<◌, ◌≤◌, min, max, Bool, true, false, cond, Some, None, Option, ◌==◌, slice_index_or, refl}
+use Rattle.std.proofs.Common.{arith, sym, ap, ◌∙◌, ⊎_elim}
+use Rattle.std.proofs.lemmas.Bool.{eqb-true, eqb-false, cases_eq}
 use Rattle.flow.specs.declared.network.Arc.{Arc}
 use Rattle.flow.specs.declared.network.Step.{Step}
 use Rattle.flow.specs.declared.network.Capacity.{Capacity}
 use Rattle.flow.specs.declared.network.Capacity.TheVariants.{Bounded, Unbounded}
 use Rattle.flow.specs.Nets.{Net, Bounds}
-use Rattle.flow.specs.Answers.{Names, Told, now_told, later_told, Lists, Adjacent}
+use Rattle.flow.specs.Answers.{Told, now_told, later_told, Lists, Adjacent}
 use Rattle.flow_trial.specs.declared.table.Table.{Table}
 
 abbrev pub blank : Arc

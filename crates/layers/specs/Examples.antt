@@ -1,5 +1,5 @@
 -- A small project to try a calendar on.
-use Rattle.std.specs.Prelude.{ℕ, pos}
+use Rattle.std.specs.Prelude.{pos}
 use Rattle.model.specs.declared.price.Price.TheVariants.{Open}
 use Rattle.model.specs.Meaning.{Meaning}
 

@@ -1,5 +1,5 @@
 -- Layers keep the limits of a project.
-use Rattle.std.specs.Prelude.{◌≡◌, ℕ, ◌+◌, ◌-◌, ◌*◌, ◌≤◌, Bool, true, false, cond, ◌&&◌, T, List, ℤ, pos, negsuc, ◌+ℤ◌, ◌≤ℤ◌, int_le, slice_index_or, refl}
+use Rattle.std.specs.Prelude.{◌≡◌, ℕ, ◌+◌, ◌-◌, ◌*◌, ◌≤◌, Bool, true, false, cond, T, List, ℤ, pos, negsuc, ◌+ℤ◌, ◌≤ℤ◌, int_le, slice_index_or, refl}
 use Rattle.std.proofs.Common.{arith}
 use Rattle.std.proofs.lemmas.Bool.{le-leb, and_from}
 use Rattle.std.proofs.lemmas.Int.{ints, clamps}

@@ -1,12 +1,10 @@
 -- What a layer makes of the meaning below it: open prices may change or close, and the height is one
 -- more. Everything else passes through, and a slot closed below keeps its height.
-use Rattle.std.specs.Prelude.{◌≡◌, ℕ, ◌+◌, ◌-◌, ◌*◌, ◌≤◌, min, Bool, true, false, cond, ◌&&◌, List, ℤ, pos, negsuc, ◌+ℤ◌, slice_index_or}
-use Rattle.std.proofs.Common.{arith}
-use Rattle.std.specs.Int.Signed.{le_z}
+use Rattle.std.specs.Prelude.{◌≡◌, ℕ, ◌+◌, ◌-◌, ◌*◌, ◌≤◌, min, Bool, true, false, cond, List, ℤ, pos, negsuc, ◌+ℤ◌, slice_index_or}
 use Rattle.std.specs.Int.{int_max, int_min}
 use Rattle.model.specs.declared.price.Price.{Price}
 use Rattle.model.specs.declared.price.Price.TheVariants.{Open, Closed}
-use Rattle.model.specs.Meaning.{Meaning, Bounds, price_fits}
+use Rattle.model.specs.Meaning.{Meaning, price_fits}
 use Rattle.layers.specs.declared.lateness.Term.{Term}
 
 -- what a rule makes of an open price, given the layer's height, the activity, the slot and the duration

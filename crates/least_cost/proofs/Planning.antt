@@ -1,17 +1,16 @@
 -- From a maximum flow of the time network, or of the turned one, to the wanted list.
-use Rattle.std.proofs.Common.{◌≡◌, ℕ, ◌+◌, ◌*◌, ◌<◌, ◌≤◌, Bool, true, false, eqb, List, ◌++◌, length, drop, Some, None, Ok, Err, sym, refl, ap, ◌∙◌, subst, ⊎_elim, arith}
+use Rattle.std.proofs.Common.{◌≡◌, ℕ, ◌*◌, ◌<◌, ◌≤◌, Bool, eqb, List, ◌++◌, drop, Some, Ok, Err, sym, refl, ap, ◌∙◌, ⊎_elim, arith}
 use Rattle.std.proofs.lemmas.List.FromFn.{length-map-range_with_len}
 use Rattle.std.proofs.lemmas.Bool.{both_ways, eqb-true}
 use Rattle.model.specs.declared.refusal.Refusal.{Refusal}
 use Rattle.model.specs.Meaning.{Meaning, Bounds}
-use Rattle.model.specs.Chosen.{NoneMeets}
 use Rattle.flow.specs.Nets as nets
 use Rattle.flow.specs.Nets.{Net, Sound, IsFlow, NoneAbove, Reached, Unhindered, word}
 use Rattle.flow.specs.Cuts.{Marks}
 use Rattle.flow.specs.Turning.{turned, turned_sound, far_side}
 use Rattle.flow.proofs.Duals.{unhindered_inside}
 use Rattle.flow.proofs.Turning.{turned_cut_is_a_cut}
-use Rattle.max_flow.specs.Outcome.{IsMark, marked, Maximum, Answered}
+use Rattle.max_flow.specs.Outcome.{marked, Maximum, Answered}
 use Rattle.plan_theory.specs.TimeNetwork.{time_net}
 use Rattle.plan_theory.specs.TimeBounds.{time_sound}
 use Rattle.plan_theory.proofs.Crossings.{unhindered_or_finite}

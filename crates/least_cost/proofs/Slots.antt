@@ -1,5 +1,5 @@
 -- Points and slots: steps of the loops that read a start.
-use Rattle.std.proofs.Common.{◌≡◌, ℕ, suc, ◌+◌, ◌-◌, ◌*◌, ◌<◌, ◌≤◌, Bool, true, false, cond, sym, refl, ap, ◌∙◌, add-one, arith}
+use Rattle.std.proofs.Common.{◌≡◌, ℕ, suc, ◌+◌, ◌-◌, ◌*◌, ◌<◌, ◌≤◌, Bool, true, false, cond, sym, ap, ◌∙◌, add-one, arith}
 use Rattle.model.specs.Meaning.{Meaning}
 use Rattle.plan_theory.specs.TimeNetwork.{point, time_net}
 use Rattle.plan_theory.specs.TimeArcs.{point_inner, point_in}

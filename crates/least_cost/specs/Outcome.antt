@@ -1,5 +1,5 @@
 -- What asking for a list of least cost answers, and what it leaves in the memory lent to it.
-use Rattle.std.specs.Prelude.{◌≡◌, ℕ, ◌*◌, ◌<◌, ◌≤◌, true, List, ◌++◌, length, drop, replicate, pos, ◌+ℤ◌, Some, None, Ok, Err, Option, Result}
+use Rattle.std.specs.Prelude.{◌≡◌, ℕ, ◌*◌, ◌<◌, ◌≤◌, List, ◌++◌, length, drop, replicate, pos, ◌+ℤ◌, Some, None, Ok, Err, Option, Result}
 use Rattle.model.specs.declared.refusal.Fault.TheVariants.{StartBytes, FlowWords, NodeWords, Unbounded}
 use Rattle.model.specs.declared.refusal.Refusal.{Refusal}
 use Rattle.model.specs.Meaning.{Meaning}

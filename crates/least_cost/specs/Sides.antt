@@ -1,6 +1,6 @@
 -- The two lists of least cost that are singled out: what each is, over which network it is found, and how
 -- it is read from the marks there.
-use Rattle.std.specs.Prelude.{ℕ, ◌-◌, Bool, List, map, Option}
+use Rattle.std.specs.Prelude.{ℕ, Bool, List, map, Option}
 use Rattle.std.specs.List.{range_with_len}
 use Rattle.model.specs.Meaning.{Meaning}
 use Rattle.model.specs.Starts.{cheapest, latest}

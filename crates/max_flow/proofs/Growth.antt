@@ -1,11 +1,11 @@
 -- One node more found, in the node words.
-use Rattle.std.proofs.Common.{◌≡◌, ℕ, ◌+◌, ◌*◌, ◌<◌, ◌≤◌, Bool, true, false, cond, eqb, ◌⊎◌, List, length, get_or, set, sym, refl, ap, ◌∙◌, subst, inl, inr, ⊎_elim, arith, below_more}
+use Rattle.std.proofs.Common.{◌≡◌, ℕ, ◌+◌, ◌<◌, Bool, true, false, cond, eqb, List, length, get_or, set, sym, refl, ap, ◌∙◌, subst, inl, inr, ⊎_elim, arith, below_more}
 use Rattle.std.proofs.lemmas.List.{get_or-set_same, get_or-set_other, length-set}
 use Rattle.std.proofs.lemmas.Bool.{eqb-true, eqb-false, eq-eqb, cases_eq}
 use Rattle.flow.specs.Sums.{pick}
-use Rattle.flow.specs.Nets.{Net, Sound, Bounds}
+use Rattle.flow.specs.Nets.{Net, Bounds}
 use Rattle.flow.specs.Ways.{Put}
-use Rattle.flow.specs.Searches.{Searching, Opens, Shut, unranked}
+use Rattle.flow.specs.Searches.{Opens, Shut, unranked}
 use Rattle.flow.proofs.Sums.{sum_to_at}
 use Rattle.flow.proofs.Searches.{found}
 use Rattle.max_flow.specs.Layout.{Four, rank_in, link_in, queue_in, found_words, waiting_after}

@@ -1,9 +1,9 @@
 -- Steps on a way, in the node words.
-use Rattle.std.proofs.Common.{◌≡◌, ℕ, ◌+◌, ◌*◌, ◌<◌, ◌≤◌, Bool, true, false, cond, eqb, ◌⊎◌, List, length, get_or, set, sym, refl, ap, ◌∙◌, subst, inl, inr, ⊎_elim, arith}
-use Rattle.std.proofs.lemmas.List.{get_or-set_same, get_or-set_other, length-set}
+use Rattle.std.proofs.Common.{◌≡◌, ℕ, ◌+◌, ◌<◌, ◌≤◌, Bool, true, false, cond, eqb, List, length, get_or, set, sym, refl, ap, ◌∙◌, subst, ⊎_elim, arith}
+use Rattle.std.proofs.lemmas.List.{get_or-set_same, get_or-set_other}
 use Rattle.std.proofs.lemmas.Bool.{eqb-true, eqb-false, cases_eq}
 use Rattle.flow.specs.declared.network.Arc.{Arc}
-use Rattle.flow.specs.Nets.{Net, Sound, Bounds, word}
+use Rattle.flow.specs.Nets.{Net, word}
 use Rattle.flow.specs.Answers.{Seen}
 use Rattle.flow.specs.Ways.{Put, Leads, Way}
 use Rattle.flow.proofs.Ways.{Laying, found_over, found_against, laying_more, way_more, way_views, way_back, goes_over, goes_against, leads_views}

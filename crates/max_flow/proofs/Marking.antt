@@ -1,8 +1,8 @@
 -- From the last search to the marks.
-use Rattle.std.proofs.Common.{◌≡◌, ℕ, ◌+◌, ◌*◌, ◌<◌, ◌≤◌, min, Bool, true, false, cond, eqb, ltb, ◌⊎◌, List, ◌++◌, length, get_or, take, drop, replicate, Ok, Err, sym, refl, ap, ◌∙◌, subst, inl, inr, ⊎_elim, arith}
+use Rattle.std.proofs.Common.{◌≡◌, ℕ, ◌*◌, ◌<◌, ◌≤◌, min, Bool, true, false, cond, eqb, ltb, List, ◌++◌, length, get_or, take, drop, replicate, Ok, Err, sym, refl, ap, ◌∙◌, subst, inl, inr, ⊎_elim, arith}
 use Rattle.std.proofs.lemmas.List.{get_or_append_left, drop_at, take-append-drop}
 use Rattle.std.proofs.lemmas.Bool.{ltb-true, ltb-false, lt-ltb, le-ltb, eq-eqb, ne_eqb, both_ways, cases_Bool}
-use Rattle.flow.specs.Nets.{Net, Bounds, IsFlow, Reached, Unhindered, word}
+use Rattle.flow.specs.Nets.{Net, Bounds, IsFlow, Unhindered, word}
 use Rattle.flow.specs.Cuts.{Finite, FiniteCut, Marks, across}
 use Rattle.flow.proofs.Duals.{marks_cut, no_flow_exceeds_a_cut, unhindered_inside}
 use Rattle.flow.proofs.Searches.{ranked_marks}

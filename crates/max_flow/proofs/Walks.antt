@@ -1,7 +1,7 @@
 -- The walks along a way, as the code has them: the link of a node is read at `count` + node.
-use Rattle.std.proofs.Common.{◌≡◌, ℕ, ◌+◌, ◌-◌, ◌<◌, ◌≤◌, min, true, ◌⊎◌, List, length, get_or, set, sym, refl, ap, ◌∙◌, subst, inl, inr, ⊎_elim, arith}
+use Rattle.std.proofs.Common.{◌≡◌, ℕ, ◌+◌, ◌-◌, ◌<◌, ◌≤◌, min, true, ◌⊎◌, List, length, get_or, set, sym, ap, ◌∙◌, subst, arith}
 use Rattle.flow.specs.declared.network.Arc.{Arc}
-use Rattle.flow.specs.Nets.{Net, Bounds, IsFlow, NoneAbove, word}
+use Rattle.flow.specs.Nets.{Net, NoneAbove, word}
 use Rattle.flow.specs.Answers.{Seen, has_room, room_left}
 use Rattle.flow.specs.Ways.{Way}
 use Rattle.flow.proofs.Ways.{way_exists, Narrow, narrow_over, narrow_against, Pushing, now_over, now_against, pushing_over, pushing_against}

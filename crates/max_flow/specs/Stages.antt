@@ -1,5 +1,5 @@
 -- What the stages of the engine hand on to one another, over lent words.
-use Rattle.std.specs.Prelude.{◌≡◌, ℕ, ◌+◌, ◌<◌, ◌≤◌, Bool, List, Some, None, Option, ◌≢◌}
+use Rattle.std.specs.Prelude.{◌≡◌, ℕ, ◌+◌, ◌<◌, ◌≤◌, List, Some, None, Option, ◌≢◌}
 use Rattle.flow.specs.Nets.{Net, IsFlow, NoneAbove, word}
 use Rattle.flow.specs.Ways.{Way, Leads}
 use Rattle.flow.specs.Searches.{Searching, Searched, unranked, Shut}

@@ -1,8 +1,8 @@
 -- The last list that passes a test, among all lists of n slots below h.
-use Rattle.std.proofs.Common.{◌≡◌, ℕ, zero, suc, ◌+◌, ◌<◌, ◌≤◌, Bool, true, false, cond, not, ◌&&◌, ◌⊎◌, List, [], ◌∷◌, ◌++◌, map, Some, None, Option, sym, refl, ap, ◌∙◌, inl, inr, ⊎_elim, arith}
+use Rattle.std.proofs.Common.{◌≡◌, ℕ, zero, suc, ◌+◌, ◌<◌, ◌≤◌, Bool, true, false, cond, not, List, [], ◌∷◌, ◌++◌, map, Some, None, Option, sym, refl, ap, ◌∙◌, ⊎_elim, arith}
 use Rattle.std.specs.Option.{option_or, option_map}
 use Rattle.std.proofs.lemmas.Bool.{and_parts, and_from, cases_order, cases_Bool}
-use Rattle.model.specs.Starts.{lists, after_each, first, last, all_of}
+use Rattle.model.specs.Starts.{lists, after_each, last, all_of}
 use Rattle.model.specs.Chosen.{NoneLater}
 use Rattle.model.proofs.Firsts.{In, false_from, all_in}
 

@@ -1,5 +1,5 @@
 -- The test of a start list, and the relation that it decides.
-use Rattle.std.proofs.Common.{◌≡◌, ℕ, zero, suc, ◌<◌, ◌≤◌, Bool, true, false, ◌&&◌, eqb, ltb, List, length, ℤ, pos, ◌+ℤ◌, ◌≤ℤ◌, Decides, refl, arith}
+use Rattle.std.proofs.Common.{◌≡◌, ℕ, ◌<◌, Bool, true, ◌&&◌, eqb, ltb, List, length, ℤ, pos, ◌+ℤ◌, ◌≤ℤ◌, Decides, refl, arith}
 use lib.Signed.{le_z}
 use Rattle.std.proofs.lemmas.Int.{ints}
 use Rattle.std.proofs.lemmas.Bool.Decides.{Decides-below_and, Decides-and, Decides-ltb, Decides-eqb, Decides-like}

@@ -1,13 +1,13 @@
 -- What the search by trying every list defines, and the relations of the subject.
-use Rattle.std.proofs.Common.{◌≡◌, ℕ, zero, suc, ◌<◌, ◌≤◌, Bool, true, false, cond, not, ◌&&◌, ◌||◌, ◌⊎◌, List, [], ◌∷◌, ℤ, ◌≤ℤ◌, Some, None, Option, sym, refl, ap, ◌∙◌, inl, inr, ⊎_elim, arith}
+use Rattle.std.proofs.Common.{◌≡◌, ℕ, Bool, true, false, not, ◌&&◌, ◌⊎◌, List, [], ◌∷◌, ◌≤ℤ◌, sym, refl, ap, ◌∙◌, inl, inr, ⊎_elim, arith}
 use lib.Signed.{le_z, ≤ℤ_refl}
 use Rattle.std.proofs.lemmas.Int.{ints}
 use Rattle.std.proofs.lemmas.Bool.{and_parts, and_from, or_cases, or_left, or_right, cases_Bool, not-true, both_ways, true≢false}
 use Rattle.model.specs.Meaning.{Meaning}
-use Rattle.model.specs.Starts.{meets, cost, lists, first, last, all_of, no_dearer, of_least_cost, earliest, cheapest, latest}
-use Rattle.model.specs.Chosen.{Meets, NoneMeets, Earliest, NoneCheaper, Cheapest, Latest, EarliestIsTheFirst, CheapestIsTheFirst, LatestIsTheLast, DefinedOnesMeet, NoneExactly, NoneDefinedExactly}
+use Rattle.model.specs.Starts.{meets, cost, lists, all_of, no_dearer, of_least_cost}
+use Rattle.model.specs.Chosen.{Meets, NoneMeets, NoneCheaper, EarliestIsTheFirst, CheapestIsTheFirst, LatestIsTheLast, DefinedOnesMeet, NoneDefinedExactly}
 use Rattle.model.proofs.Meeting.{meets_test, le_int_true, true_le_int}
-use Rattle.model.proofs.Firsts.{In, in_from, false_from, all_in, of_in, first_none, none_passes, first_passes, none_in, first_least}
+use Rattle.model.proofs.Firsts.{In, in_from, false_from, all_in, of_in, first_none, none_passes, first_passes, first_least}
 use Rattle.model.proofs.Lasts.{last_none, none_lasts, last_passes, last_greatest}
 
 in_lists : (m : Meaning) (s : List ℕ) → Meets m s → In m.n m.horizon s

@@ -1,6 +1,5 @@
 -- The lag of a relation and what the relation says: case by case.
-use Rattle.std.proofs.Common.{◌≡◌, ℕ, ◌+◌, true, List, ℤ, pos, ◌+ℤ◌, ◌-ℤ◌, ◌≤ℤ◌, Decides, arith}
-use lib.Signed.{le_z}
+use Rattle.std.proofs.Common.{◌≡◌, ℕ, ◌+◌, List, ℤ, pos, ◌+ℤ◌, ◌-ℤ◌, ◌≤ℤ◌, Decides, arith}
 use Rattle.std.proofs.lemmas.Int.{ints}
 use Rattle.model.specs.Starts.{start, holds}
 use Rattle.model.proofs.Meeting.{le_int_true, true_le_int}
@@ -8,9 +7,8 @@ use Rattle.relations.specs.declared.relation.End.{End}
 use Rattle.relations.specs.declared.relation.End.TheVariants.{Start, Finish}
 use Rattle.relations.specs.declared.relation.Sense.{Sense}
 use Rattle.relations.specs.declared.relation.Sense.TheVariants.{Least, Greatest}
-use Rattle.relations.specs.declared.relation.Relation.{Relation}
-use Rattle.relations.specs.Lags.{reach, gap_by, turned_by, lag_of}
-use Rattle.relations.specs.Sayings.{moment, Apart, Says, RelationIsItsLag}
+use Rattle.relations.specs.Lags.{reach, gap_by, turned_by}
+use Rattle.relations.specs.Sayings.{moment, Apart, RelationIsItsLag}
 
 -- the moment of an end is its reach after the start
 moment_is : (x : End) (s d : ℕ) → moment x s d ≡ s + reach x d

@@ -1,9 +1,8 @@
 -- The first fault of several parts, as a reader meets it that stops at the first fault.
-use Rattle.std.proofs.Common.{◌≡◌, ℕ, zero, suc, ◌+◌, ◌<◌, ◌≤◌, Some, None, Ok, Err, Option, Result, sym, refl, ap, ◌∙◌, ⊎_elim, add-one, arith}
+use Rattle.std.proofs.Common.{◌≡◌, ℕ, zero, suc, ◌+◌, ◌<◌, Some, None, Ok, Err, Option, Result, sym, refl, ap, ◌∙◌, ⊎_elim, add-one, arith}
 use Rattle.std.proofs.lemmas.Bool.{cases_order}
 use Rattle.model.specs.declared.refusal.Refusal.{Refusal}
 use Rattle.table_file.specs.Format.{or_else, each, unless}
-use Rattle.table_file.specs.Clear.{both_clear}
 
 -- what a part that answered tells of its fault and its value
 pub clear : {V : Type 0} (f : Option Refusal) (v x : V) → Ok x ≡ unless f v → f ≡ None

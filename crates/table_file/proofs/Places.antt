@@ -1,8 +1,7 @@
 -- Where a record stands in a faultless file, and that it passes.
-use Rattle.std.proofs.Common.{◌≡◌, ℕ, ◌+◌, ◌*◌, ◌<◌, ◌≤◌, true, ltb, List, length, Some, None, Option, Result, sym, ap, ◌∙◌, mul_comm, mul-le-mul, arith}
+use Rattle.std.proofs.Common.{◌≡◌, ℕ, ◌+◌, ◌*◌, ◌<◌, ◌≤◌, true, ltb, List, length, Some, None, Result, sym, ap, ◌∙◌, mul_comm, mul-le-mul, arith}
 use Rattle.std.proofs.lemmas.Bool.{ltb-true}
 use Rattle.std.proofs.lemmas.Nat.{mul-add-lt}
-use Rattle.model.specs.declared.lag.Lag.{Lag}
 use Rattle.model.specs.declared.refusal.Fault.TheVariants.{Range}
 use Rattle.model.specs.Meaning.{within, lag_of as lag_of_meaning}
 use Rattle.relations.specs.Lags.{gap_of, gap_fits, lag_of}
@@ -14,7 +13,7 @@ use Rattle.std.specs.Result.{result_ok}
 use Rattle.model.specs.declared.refusal.Refusal.{Refusal}
 use Rattle.relations.specs.declared.relation.Relation.{Relation}
 use Rattle.table_file.specs.declared.shape.Head.{Head}
-use Rattle.table_file.specs.Format.{faultless, unless, relation_count_place, relation_fault, ends_fault, interval_fault, relation_at, record_place, relations_in, relations_fault}
+use Rattle.table_file.specs.Format.{faultless, unless, relation_count_place, relation_fault, ends_fault, interval_fault, relation_at, record_place, relations_in}
 use Rattle.table_file.specs.Bounded.{faultless_parts}
 use Rattle.table_file.specs.Clear.{both_clear, each_clear, field_clear, ends_clear, EndsClear, durations_there}
 use Rattle.table_file.specs.Reading.{HeadIs}

@@ -1,20 +1,19 @@
 -- The project that a faultless file states keeps the bounds of a project.
-use Rattle.std.specs.Prelude.{◌≡◌, ℕ, zero, suc, ◌+◌, ◌*◌, ◌<◌, ◌≤◌, Bool, true, false, cond, ◌&&◌, ◌||◌, T, List, length, ℤ, pos, negsuc, ◌≤ℤ◌, Some, None, Option, refl}
-use Rattle.std.proofs.Common.{sym, subst, ⊎_elim, mul_comm, arith}
+use Rattle.std.specs.Prelude.{◌≡◌, ℕ, ◌+◌, ◌*◌, ◌<◌, true, false, cond, ◌&&◌, ◌||◌, T, List, ℤ, pos, negsuc, ◌≤ℤ◌, Some, None, Option, refl}
+use Rattle.std.proofs.Common.{sym, subst, mul_comm, arith}
 use Rattle.std.specs.Int.Signed.{le_z, le_z_yes}
 use Rattle.std.proofs.lemmas.Nat.{mul-add-lt}
-use Rattle.std.proofs.lemmas.Bool.{cases_Bool, leb-true, ltb-false, and_parts}
-use Rattle.model.specs.declared.lag.Lag.{Lag}
+use Rattle.std.proofs.lemmas.Bool.{leb-true, and_parts}
 use Rattle.model.specs.declared.price.Price.TheVariants.{Open, Closed}
-use Rattle.model.specs.declared.refusal.Fault.TheVariants.{Range, Count}
+use Rattle.model.specs.declared.refusal.Fault.TheVariants.{Range}
 use Rattle.model.specs.declared.refusal.Refusal.{Refusal}
-use Rattle.model.specs.Meaning.{Meaning, Bounds, LagWithin, price_fits}
+use Rattle.model.specs.Meaning.{Bounds, LagWithin, price_fits}
 use Rattle.relations.specs.declared.relation.Sense.{Sense}
 use Rattle.relations.specs.declared.relation.Sense.TheVariants.{Least, Greatest}
 use Rattle.relations.specs.Lags.{gap_fits, turned_by}
-use Rattle.table_file.specs.Format.{file_fault, is_none, faultless, head_fault, durations_fault, duration_fault, duration_in, price_count_fault, prices_fault, price_fault, price_in, prices_place, price_ok, is_closed, relation_count_fault, relations_fault, relation_fault, ends_fault, interval_fault, record_place, end_fault, horizon_in, activities_in, cells_in, relations_in, relation_at, gap_at, end_place}
-use Rattle.table_file.specs.Clear.{both_clear, each_clear, field_clear, head_clear, HeadClear, ends_clear, EndsClear, relations_few}
-use Rattle.table_file.specs.Stated.{stated, price_stated, lag_stated}
+use Rattle.table_file.specs.Format.{file_fault, is_none, faultless, head_fault, durations_fault, duration_fault, duration_in, price_count_fault, prices_fault, price_fault, price_in, prices_place, price_ok, is_closed, relation_count_fault, relations_fault, relation_fault, ends_fault, interval_fault, record_place, end_fault, horizon_in, activities_in, cells_in, relations_in, relation_at, gap_at}
+use Rattle.table_file.specs.Clear.{both_clear, each_clear, field_clear, head_clear, HeadClear, ends_clear, relations_few}
+use Rattle.table_file.specs.Stated.{stated, price_stated}
 use Rattle.table_file.specs.Numbers.{byte}
 
 is_none_none : (o : Option Refusal) → is_none o ≡ true → o ≡ None

@@ -10,7 +10,7 @@
 --   5 + n + 4·n·H       2         the number q of relations, 0 to 256
 --   7 + n + 4·n·H       q × 7     the relations: three letters, from, to, and two bytes of interval
 --   7 + n + 4·n·H + 7·q           the end
-use Rattle.std.specs.Prelude.{ℕ, zero, suc, ◌+◌, ◌*◌, Bool, true, false, cond, ◌&&◌, ◌||◌, List, [], ◌∷◌, length, ℤ, pos, negsuc, Some, None, Ok, Err, Option, Result, ◌==◌, int_le, nat_le, nat_lt}
+use Rattle.std.specs.Prelude.{ℕ, zero, suc, ◌+◌, ◌*◌, Bool, true, false, cond, ◌&&◌, ◌||◌, List, length, ℤ, pos, negsuc, Some, None, Ok, Err, Option, Result, ◌==◌, int_le, nat_le, nat_lt}
 use Rattle.model.specs.declared.refusal.Fault.{Fault}
 use Rattle.model.specs.declared.refusal.Fault.TheVariants.{Kind, Horizon, Short, Count, Range, Trailing}
 use Rattle.model.specs.declared.refusal.Refusal.{Refusal}

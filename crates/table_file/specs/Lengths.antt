@@ -1,11 +1,10 @@
 -- Where the sections of a faultless file end.
-use Rattle.std.specs.Prelude.{◌≡◌, ℕ, zero, suc, ◌+◌, ◌*◌, ◌<◌, ◌≤◌, true, ltb, List, length, None, Option, refl}
+use Rattle.std.specs.Prelude.{◌≡◌, ℕ, zero, suc, ◌+◌, ◌*◌, ◌≤◌, true, List, length, None, refl}
 use Rattle.std.proofs.Common.{arith}
 use Rattle.model.specs.declared.refusal.Fault.TheVariants.{Range, Count}
-use Rattle.model.specs.declared.refusal.Refusal.{Refusal}
-use Rattle.table_file.specs.Format.{faultless, relation_count_place, relation_count_fault, relations_place, relations_in, relations_fault, relation_fault, ends_fault, interval_fault, record_place, end_place, end_fault}
+use Rattle.table_file.specs.Format.{faultless, relation_count_place, relations_place, relations_in, relations_fault, relation_fault, ends_fault, interval_fault, record_place, end_place}
 use Rattle.table_file.specs.Clear.{both_clear, each_clear, field_clear, end_clear}
-use Rattle.table_file.specs.Bounded.{Faultless, faultless_parts}
+use Rattle.table_file.specs.Bounded.{faultless_parts}
 
 pub record Lengths (file : List ℕ) : Type 0 where
   pub count_there : relation_count_place file + 2 ≤ length file

@@ -1,5 +1,5 @@
 -- Steps of the reader: a number that is there or not, and the head of a file.
-use Rattle.std.specs.Prelude.{◌≡◌, ℕ, ◌+◌, ◌≤◌, cond, List, length, Some, None, Ok, Err, Option, Result, nat_lt}
+use Rattle.std.specs.Prelude.{◌≡◌, ℕ, ◌+◌, ◌≤◌, cond, List, length, Ok, Err, Result, nat_lt}
 use Rattle.model.specs.declared.refusal.Fault.TheVariants.{Short}
 use Rattle.model.specs.declared.refusal.Refusal.{Refusal}
 use Rattle.model.specs.Refusals.{refuse}

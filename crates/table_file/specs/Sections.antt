@@ -1,5 +1,5 @@
 -- What a section shows, and which part of a file each one is.
-use Rattle.std.specs.Prelude.{ℕ, ◌+◌, ◌*◌, List, take, drop}
+use Rattle.std.specs.Prelude.{ℕ, ◌*◌, List, take, drop}
 use Rattle.table_file.specs.declared.section.Section.{Section}
 use Rattle.table_file.specs.declared.section.Section.TheVariants.{Durations, Prices, Relations}
 use Rattle.table_file.specs.declared.section.Placed.{Placed}

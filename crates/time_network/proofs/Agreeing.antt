@@ -1,11 +1,10 @@
 -- Networks that are the same have the same flows, cuts and marks.
-use Rattle.std.proofs.Common.{◌≡◌, ℕ, ◌+◌, ◌<◌, ◌≤◌, Bool, true, false, not, ◌&&◌, ◌||◌, eqb, ltb, sym, refl, ap, ◌∙◌, subst, arith}
+use Rattle.std.proofs.Common.{◌≡◌, ℕ, ◌+◌, ◌<◌, Bool, not, ◌&&◌, ◌||◌, eqb, ltb, sym, ap, ◌∙◌, subst, arith}
 use Rattle.flow.specs.Sums.{sum_to, pick}
 use Rattle.flow.proofs.Sums.{sum_to_same}
 use Rattle.flow.specs.Nets as nets
 use Rattle.flow.specs.Nets.{Net, IsFlow, outflow, inflow, room, Reached, Unhindered}
-use Rattle.flow.specs.Cuts.{Marks, FiniteCut, across}
-use Rattle.flow.specs.Turning.{turned, other}
+use Rattle.flow.specs.Turning.{other}
 use Rattle.time_network.specs.Agreement.{Same, SameBack, SameTurned, SameFlows, SameReached, SameMarks, SameUnhindered, SameCuts}
 
 pub same_back : SameBack

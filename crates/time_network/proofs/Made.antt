@@ -1,5 +1,5 @@
 -- What is written down of a project is its time network.
-use Rattle.std.proofs.Common.{◌≡◌, ℕ, ◌+◌, ◌*◌, ◌<◌, ◌≤◌, Bool, true, false, cond, not, ◌&&◌, T, ltb, List, get_or, ℤ, pos, negsuc, ◌+ℤ◌, ◌-ℤ◌, nat_abs, ◌≤ℤ◌, sym, refl, ap, ◌∙◌, subst, arith}
+use Rattle.std.proofs.Common.{◌≡◌, ℕ, ◌*◌, ◌<◌, ◌≤◌, Bool, true, false, not, ◌&&◌, T, ltb, List, ℤ, pos, negsuc, ◌+ℤ◌, ◌-ℤ◌, nat_abs, sym, refl, ap, ◌∙◌, subst, arith}
 use lib.Signed.{le_z}
 use Rattle.std.proofs.lemmas.Bool.{lt-ltb, le-ltb, and_from, cond-true, cond-false}
 use Rattle.std.proofs.lemmas.Nat.{mul-add-lt}
@@ -8,12 +8,11 @@ use Rattle.model.specs.declared.price.Price.TheVariants.{Open, Closed}
 use Rattle.model.specs.declared.lag.Lag.{Lag}
 use Rattle.model.specs.Meaning.{Meaning, Bounds, LagWithin}
 use Rattle.model.specs.Starts.{is_open, floor}
-use Rattle.flow.specs.Nets.{Net}
 use Rattle.plan_theory.specs.TimeNetwork.{point, cut_to, above, on_arc, back_arc, lag_arc, time_net}
 use Rattle.plan_theory.specs.TimeArcs.{on_tail, on_head, on_capacity, on_unbounded, back_tail, back_head, back_capacity, back_unbounded, lag_tail_is, lag_head_is, lag_capacity, lag_unbounded, on_exists, each_arc}
 use Rattle.plan_theory.specs.TimeBounds.{time_bounds}
 use Rattle.time_network.specs.Agreement.{Same}
-use Rattle.time_network.specs.Held.{lag_at, lag_fits, LagsFit, held, held_net, amount, bounds_none}
+use Rattle.time_network.specs.Held.{lag_fits, LagsFit, held, held_net, amount, bounds_none}
 use Rattle.time_network.specs.Making.{word_of, Priced, Copied}
 
 T_true : (x : Bool) → T x → x ≡ true

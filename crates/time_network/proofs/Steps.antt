@@ -1,8 +1,7 @@
 -- Steps along lags, put together from their parts.
-use Rattle.std.proofs.Common.{◌≡◌, ℕ, ◌+◌, ◌*◌, ◌/◌, ◌%◌, ◌<◌, ◌≤◌, Bool, true, false, cond, eqb, ltb, Some, None, Option, sym, ap, ◌∙◌, ⊎_elim, arith}
+use Rattle.std.proofs.Common.{◌≡◌, ℕ, ◌+◌, ◌*◌, ◌/◌, ◌%◌, ◌<◌, ◌≤◌, true, false, ltb, sym, ap, ◌∙◌, ⊎_elim, arith}
 use Rattle.std.proofs.lemmas.Bool.{lt-ltb, le-ltb, eq-eqb, eqb-true, and_from, and_left, cond-true, cases_order}
 use Rattle.model.specs.Meaning.{Meaning}
-use Rattle.flow.specs.declared.network.Step.{Step}
 use Rattle.plan_theory.specs.TimeNetwork.{lag_head, lag_arc}
 use Rattle.time_network.specs.Listing.{step, leads, ends, lands, taken, next_leading, leaving_lag}
 use Rattle.time_network.specs.Seeking.{seek, seek_sought, seek_skip}

@@ -2,7 +2,7 @@
 use Rattle.std.specs.Prelude.{ℕ, List, Option}
 use Rattle.model.specs.Meaning.{Meaning}
 use Rattle.flow.specs.declared.network.Step.{Step}
-use Rattle.flow.specs.Answers.{Lists, Names, Adjacent}
+use Rattle.flow.specs.Answers.{Lists, Adjacent}
 use Rattle.plan_theory.specs.TimeNetwork.{time_net}
 use Rattle.time_network.specs.declared.held.TimeNetwork.{TimeNetwork}
 use Rattle.time_network.specs.Held.{held_net}

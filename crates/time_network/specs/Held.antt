@@ -1,7 +1,7 @@
 -- What a time network holds: the lags of a project with an index, and a word for the capacity of each price
 -- arc. As to ends of arcs it is the time network of a project that has these lags.
-use Rattle.std.specs.Prelude.{◌≡◌, ℕ, ◌+◌, ◌*◌, ◌<◌, ◌≤◌, Bool, true, false, cond, ◌&&◌, ◌⊎◌, List, ℤ, pos, negsuc, ◌≤ℤ◌, ◌==◌, int_le, nat_lt, slice_index, slice_index_or, refl}
-use Rattle.std.proofs.Common.{arith, inl, inr, ⊎_elim, sym, ap, ◌∙◌}
+use Rattle.std.specs.Prelude.{◌≡◌, ℕ, ◌+◌, ◌*◌, ◌<◌, ◌≤◌, Bool, true, cond, ◌&&◌, List, pos, negsuc, ◌==◌, int_le, nat_lt, slice_index, slice_index_or, refl}
+use Rattle.std.proofs.Common.{arith}
 use Rattle.std.proofs.lemmas.Bool.{ltb-true, ltb-false, and_parts, cond_both}
 use Rattle.std.proofs.lemmas.Int.{ints}
 use Rattle.model.specs.declared.price.Price.TheVariants.{Closed}

@@ -1,5 +1,4 @@
 -- A time network as a value: the project that its points and arcs are of, and the network.
-use Rattle.std.specs.Prelude.{ℕ}
 use Rattle.model.specs.Meaning as meanings
 use Rattle.model.specs.Meaning.{Meaning}
 use Rattle.flow.specs.Nets.{Net, Bounds}

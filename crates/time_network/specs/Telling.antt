@@ -4,7 +4,7 @@ use Rattle.std.proofs.Common.{arith, inl, inr, ⊎_elim, subst}
 use Rattle.model.specs.Meaning.{Meaning}
 use Rattle.flow.specs.declared.network.Step.{Step}
 use Rattle.flow.specs.Answers.{Names, Told, now_told, later_told}
-use Rattle.plan_theory.specs.TimeNetwork.{here, next, time_net}
+use Rattle.plan_theory.specs.TimeNetwork.{time_net}
 
 -- who asks on from cursor c is told of an arc, or of another and then has a cursor that is no further than p
 abbrev pub Onward : (ℕ → Option Step) → ℕ → ℕ → (ℕ → Type 0) → ℕ → Type 0

@@ -1,4 +1,4 @@
-use Rattle.std.proofs.Common.{ap, ◌∙◌, arith}
+use Rattle.std.proofs.Common.{ap, ◌∙◌}
 use Rattle.flow.specs.Nets.{word}
 use Rattle.certificate.proofs.Points.{lag_place}
 use Rattle.certificate.proofs.nodes.lag_word.Goals as goal

@@ -1,4 +1,4 @@
-use Rattle.std.proofs.Common.{ap, ◌∙◌, arith}
+use Rattle.std.proofs.Common.{ap, arith}
 use Rattle.model.specs.declared.lag.Lag.{Lag}
 use Rattle.certificate.proofs.starts.check_lag.Goals as goal
 

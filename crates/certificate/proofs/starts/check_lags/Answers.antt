@@ -1,6 +1,6 @@
 use Rattle.std.proofs.Common.{◌<◌, arith}
 use Rattle.std.proofs.lemmas.Result.{err_from_is_err_and}
-use Rattle.certificate.proofs.Chains.{clear, fault, fails, passes, each_more, each_stops}
+use Rattle.certificate.proofs.Chains.{clear, fault, fails, each_more, each_stops}
 use Rattle.certificate.proofs.starts.check_lags.Goals as goal
 
 pub returns-in_err-check_lag : goal.returns-in_err-check_lag

@@ -1,4 +1,4 @@
-use Rattle.std.proofs.Common.{◌≡◌, ℕ, ◌+◌, ◌*◌, ap, ◌∙◌, arith}
+use Rattle.std.proofs.Common.{◌≡◌, ◌+◌, ◌*◌, ap, ◌∙◌, arith}
 use Rattle.flow.specs.Nets.{word}
 use Rattle.flow.proofs.Sums.{sum_to_more}
 use Rattle.certificate.specs.Sums.{first_words}

@@ -1,4 +1,4 @@
-use Rattle.std.proofs.Common.{◌≡◌, ◌-◌, ◌++◌, length, drop, replicate, arith, rules}
+use Rattle.std.proofs.Common.{◌≡◌, ◌-◌, ◌++◌, length, drop, replicate, rules}
 use borrow.Rule.Slice.PartMut.{post_of}
 use Rattle.earliest.specs.Outcome.{Enough}
 use Rattle.earliest.proofs.Outcomes.{words_fit, outcome}

@@ -1,4 +1,4 @@
-use Rattle.std.proofs.Common.{Err, sym, refl, subst, arith, rules}
+use Rattle.std.proofs.Common.{Err, sym, refl, subst, arith}
 use Rattle.model.specs.declared.refusal.Refusal.{Refusal}
 use Rattle.model.specs.Starts.{earliest}
 use Rattle.earliest.specs.Outcome.{Told, searched}

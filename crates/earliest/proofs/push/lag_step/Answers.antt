@@ -1,4 +1,4 @@
-use Rattle.std.proofs.Common.{arith, rules}
+use Rattle.std.proofs.Common.{arith}
 use Rattle.earliest.proofs.Asked.{lag_within}
 use Rattle.earliest.proofs.push.lag_step.Goals as goal
 

@@ -1,7 +1,7 @@
-use Rattle.std.proofs.Common.{◌≡◌, ℕ, ◌+◌, ◌-◌, ◌*◌, ◌<◌, ◌≤◌, List, None, sym, ◌∙◌, arith, rules, below_more}
+use Rattle.std.proofs.Common.{◌≡◌, ℕ, ◌+◌, ◌-◌, ◌*◌, ◌<◌, ◌≤◌, None, sym, ◌∙◌, arith, rules, below_more}
 use Rattle.earliest.specs.Nodes.{node_of}
 use Rattle.earliest.specs.Pushing.{State, closed_step, lag_step, latest_of}
-use Rattle.earliest.proofs.Steps.{closed_pushes, lag_pushes, nodes_few, fresh}
+use Rattle.earliest.proofs.Steps.{closed_pushes, lag_pushes, nodes_few}
 use Rattle.earliest.proofs.Loops.{few_fit, ready, room_left, kept, left}
 use Rattle.earliest.proofs.push.push.Goals as goal
 use Rattle.earliest.proofs.push.push.Goals.{in-Some+else-node-horizon, in_default, in-Some-lag_step+else-node-horizon-2, in_default-lag_step}

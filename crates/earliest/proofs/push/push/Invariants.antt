@@ -1,6 +1,5 @@
-use Rattle.std.proofs.Common.{◌≡◌, ℕ, ◌-◌, ◌*◌, ◌<◌, ◌≤◌, length, None}
+use Rattle.std.proofs.Common.{◌≡◌, ℕ, ◌-◌, ◌*◌, ◌<◌, ◌≤◌, None}
 use Rattle.earliest.specs.Nodes.{node_of}
-use Rattle.earliest.specs.Outcome.{words_needed}
 use Rattle.earliest.specs.Pushing.{State, closed_step, lag_step, latest_of}
 use Rattle.earliest.proofs.push.push.Given as goal
 

@@ -1,7 +1,6 @@
 use Rattle.std.proofs.Common.{◌+◌, ◌<◌, ◌≤◌, length, set, ap, arith, length-set, rules}
 use Rattle.earliest.specs.declared.nodes.Node.{Node}
-use Rattle.earliest.specs.Outcome.{entries_needed}
-use Rattle.earliest.proofs.Trails.{Walk, walk_start, walk_more, walk_end, walk_room, walk_node, gathered_on, entries_fit}
+use Rattle.earliest.proofs.Trails.{walk_start, walk_more, walk_end, walk_room, walk_node, gathered_on, entries_fit}
 use Rattle.earliest.proofs.trace.gather.Goals as goal
 
 pub loop-node-init : goal.loop-node-init

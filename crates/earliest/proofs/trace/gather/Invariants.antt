@@ -1,5 +1,3 @@
-use Rattle.std.proofs.Common.{ℕ, ◌≤◌, length}
-use Rattle.earliest.specs.Outcome.{entries_needed}
 use Rattle.earliest.proofs.Trails.{Walk}
 use Rattle.earliest.proofs.trace.gather.Given as goal
 

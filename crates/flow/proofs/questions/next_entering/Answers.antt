@@ -1,4 +1,4 @@
-use Rattle.std.proofs.Common.{sym, ap, ◌∙◌}
+use Rattle.std.proofs.Common.{ap, ◌∙◌}
 use Rattle.flow.proofs.Asking.{asked}
 use Rattle.flow.proofs.questions.next_entering.Goals as goal
 

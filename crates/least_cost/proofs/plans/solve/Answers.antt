@@ -1,4 +1,4 @@
-use Rattle.std.proofs.Common.{◌≡◌, length, sym}
+use Rattle.std.proofs.Common.{length}
 use Rattle.std.proofs.lemmas.Result.{err_from_is_err_and}
 use Rattle.time_network.specs.Meant.{net_of}
 use Rattle.least_cost.proofs.Planning.{planned, nothing, enough_flow, enough_nodes}

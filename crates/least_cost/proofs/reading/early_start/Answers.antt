@@ -1,4 +1,4 @@
-use Rattle.std.proofs.Common.{◌≡◌, ℕ, ◌<◌, Bool, true, false, sym, ap, ◌∙◌, arith}
+use Rattle.std.proofs.Common.{◌≡◌, ℕ, Bool, sym, ap, ◌∙◌, arith}
 use Rattle.max_flow.specs.Outcome.{marked}
 use Rattle.plan_theory.specs.TimeNetwork.{point}
 use Rattle.least_cost.proofs.Slots.{greatest_here, greatest_kept}

@@ -1,4 +1,3 @@
-use Rattle.std.proofs.Common.{◌≡◌}
 use Rattle.flow.specs.Nets.{word}
 use Rattle.flow.proofs.Ways.{Laying}
 use Rattle.max_flow.specs.Layout.{rank_in, link_in}

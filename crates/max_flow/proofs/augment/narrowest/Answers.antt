@@ -1,4 +1,4 @@
-use Rattle.std.proofs.Common.{ℕ, sym, subst, arith}
+use Rattle.std.proofs.Common.{sym, subst, arith}
 use Rattle.flow.specs.Nets.{word}
 use Rattle.flow.specs.Ways.{Way, arrived}
 use Rattle.max_flow.specs.Layout.{rank_in, link_in}

@@ -1,4 +1,4 @@
-use Rattle.std.proofs.Common.{ℕ, sym, refl, ◌∙◌, subst, inl, inr, arith}
+use Rattle.std.proofs.Common.{ℕ, sym, refl, subst, inl, inr, arith}
 use Rattle.flow.specs.Nets.{word}
 use Rattle.max_flow.specs.Layout.{rank_in, link_in}
 use Rattle.flow.proofs.Ways.{Pushing, pushing_begins, pushing_ends}

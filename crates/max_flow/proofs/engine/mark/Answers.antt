@@ -1,4 +1,4 @@
-use Rattle.std.proofs.Common.{min, cond, ltb, ◌≢◌, ap, ◌∙◌, arith, below_more}
+use Rattle.std.proofs.Common.{min, cond, ltb, ap, ◌∙◌, arith, below_more}
 use Rattle.std.proofs.lemmas.List.{get_or-set_same, get_or-set_other}
 use Rattle.max_flow.proofs.engine.mark.Goals as goal
 

@@ -1,4 +1,4 @@
-use Rattle.std.proofs.Common.{sym, ◌∙◌, inr, arith}
+use Rattle.std.proofs.Common.{inr, arith}
 use Rattle.flow.specs.Nets.{word}
 use Rattle.max_flow.proofs.Growth.{grown_find, find_space}
 use Rattle.max_flow.proofs.search.find_back.Goals as goal

@@ -1,4 +1,4 @@
-use Rattle.std.proofs.Common.{arith, rules}
+use Rattle.std.proofs.Common.{rules}
 use Rattle.model.specs.Meaning.{price_of}
 use Rattle.model.proofs.Counting.{count_open_more, count_open_bound}
 use Rattle.model.proofs.floors.open_slots_of.Goals as goal

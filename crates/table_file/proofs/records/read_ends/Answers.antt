@@ -1,4 +1,3 @@
-use Rattle.std.proofs.Common.{◌≡◌, sym, ap, ◌∙◌}
 use Rattle.std.proofs.lemmas.Result.{err_from_is_err_and}
 use Rattle.table_file.proofs.Chains.{clear, value, fault, past, stops, fails, passes}
 use Rattle.table_file.proofs.records.read_ends.Goals as goal

@@ -1,7 +1,6 @@
-use Rattle.std.proofs.Common.{◌≡◌, ℕ, ◌+◌, Some, None, Option, sym, ap, ◌∙◌, arith}
-use Rattle.flow.specs.declared.network.Step.{Step}
+use Rattle.std.proofs.Common.{Some, sym, ap, ◌∙◌, arith}
 use Rattle.flow_trial.specs.Tables.{table_net, step_at}
-use Rattle.flow_trial.proofs.Listing.{listed_here, listed_more, listed_none}
+use Rattle.flow_trial.proofs.Listing.{listed_here, listed_more}
 use Rattle.flow_trial.proofs.table.TableNetwork.leaving.Goals as goal
 
 pub returns-then-tail-at : goal.returns-then-tail-at
