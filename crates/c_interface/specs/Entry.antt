@@ -1,41 +1,55 @@
--- What the C entry answers for a table file, and what it leaves in the memory lent to it.
-use Rattle.std.specs.Prelude.{◌≡◌, ℕ, List, length, ℤ, Some, None, Ok, Err, Option, Result}
+-- What the C entry answers for a table file, and what it leaves in the memory lent to it. A list is primed
+-- after the call.
+use Rattle.std.specs.Prelude.{◌≡◌, ℕ, List, ℤ, pos, ◌+ℤ◌, Some, None, Ok, Err, Option, Result}
 use Rattle.model.specs.declared.refusal.Refusal.{Refusal}
+use Rattle.model.specs.Meaning.{Meaning}
 use Rattle.model.specs.Refusals.{code_of}
-use Rattle.earliest.specs.Outcome.{Ending, refused, nodes_after}
-use Rattle.least_cost.specs.declared.plan.Plan.{Plan}
+use Rattle.model.specs.Starts.{floors}
 use Rattle.least_cost.specs.declared.side.Side.TheVariants.{Early}
-use Rattle.least_cost.specs.Outcome.{ending, answer_of, Told}
+use Rattle.least_cost.specs.Outcome.{Outcome}
 use Rattle.table_file.specs.Format.{file_fault}
-use Rattle.table.specs.Stated.{stated}
+use Rattle.table_file.specs.Stated.{stated}
 
--- refused at a fault, else as it would end
-abbrev pub after_fault : Option Refusal → Ending → Ending
-after_fault None e = e
-after_fault (Some f) e = refused f
+-- what a list costs that costs so much above the floors
+abbrev pub cost_by : Meaning → Result ℕ Refusal → Result ℤ Refusal
+cost_by m (Ok w) = Ok (floors m +ℤ pos w)
+cost_by m (Err e) = Err e
 
--- the first fault of the file counts before all else; then what the project that it states has for an
--- ending, with s start bytes, f flow words and w node words
-abbrev pub file_ending : List ℕ → ℕ → ℕ → ℕ → Ending
-file_ending file s f w = after_fault (file_fault file) (ending Early (stated file) s f w)
+-- as asking for the cheapest starts ends, with the cost in place of the value
+pub record Priced (m : Meaning) (starts starts' flow flow' nodes nodes' : List ℕ) (r : Result ℤ Refusal) : Type 0 where
+  pub value : Result ℕ Refusal
+  pub outcome : Outcome Early m starts starts' flow flow' nodes nodes' value
+  pub priced : r ≡ cost_by m value
+
+-- refused for a fault of the file: nothing is changed
+pub record Faulty (e : Refusal) (starts starts' flow flow' nodes nodes' : List ℕ) (r : Result ℤ Refusal) : Type 0 where
+  pub answer : r ≡ Err e
+  pub same_starts : starts' ≡ starts
+  pub same_flow : flow' ≡ flow
+  pub same_nodes : nodes' ≡ nodes
+
+-- the first fault counts before all else
+abbrev pub AfterFault : Option Refusal → Meaning → List ℕ → List ℕ → List ℕ → List ℕ → List ℕ → List ℕ → Result ℤ Refusal → Type 0
+AfterFault (Some e) m starts starts' flow flow' nodes nodes' r = Faulty e starts starts' flow flow' nodes nodes' r
+AfterFault None m starts starts' flow flow' nodes nodes' r = Priced m starts starts' flow flow' nodes nodes' r
+
+abbrev pub FileOutcome : List ℕ → List ℕ → List ℕ → List ℕ → List ℕ → List ℕ → List ℕ → Result ℤ Refusal → Type 0
+FileOutcome file starts starts' flow flow' nodes nodes' r =
+    AfterFault (file_fault file) (stated file) starts starts' flow flow' nodes nodes' r
 
 -- 0, or number × 65,536 + place
-abbrev pub code_by : Result Plan Refusal → ℕ
-code_by (Ok p) = 0
+abbrev pub code_by : Result ℤ Refusal → ℕ
+code_by (Ok c) = 0
 code_by (Err e) = code_of e
 
 -- the cost is written only where there is a plan
-abbrev pub cost_after : Result Plan Refusal → ℤ → ℤ
-cost_after (Ok p) before = p.cost
+abbrev pub cost_after : Result ℤ Refusal → ℤ → ℤ
+cost_after (Ok c) before = c
 cost_after (Err e) before = before
 
--- a list is primed after the call
-pub record FileOutcome (file starts starts' flow flow' nodes nodes' : List ℕ) (r : Result Plan Refusal) : Type 0 where
-  pub told : Told Early (stated file) (file_ending file (length starts) (length flow) (length nodes)) starts starts' flow flow' r
-  pub nodes_are : nodes' ≡ nodes_after (stated file) (file_ending file (length starts) (length flow) (length nodes)) nodes
-
--- the same with the answer as a code, and the cost
+-- the answer as a code, and the cost
 pub record EntryOutcome (file starts starts' flow flow' nodes nodes' : List ℕ) (cost cost' : ℤ) (code : ℕ) : Type 0 where
-  pub planned : FileOutcome file starts starts' flow flow' nodes nodes' (answer_of (stated file) (file_ending file (length starts) (length flow) (length nodes)))
-  pub code_is : code ≡ code_by (answer_of (stated file) (file_ending file (length starts) (length flow) (length nodes)))
-  pub cost_is : cost' ≡ cost_after (answer_of (stated file) (file_ending file (length starts) (length flow) (length nodes))) cost
+  pub answer : Result ℤ Refusal
+  pub planned : FileOutcome file starts starts' flow flow' nodes nodes' answer
+  pub code_is : code ≡ code_by answer
+  pub cost_is : cost' ≡ cost_after answer cost

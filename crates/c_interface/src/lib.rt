@@ -1,26 +1,58 @@
+#![tactic(auto)]
 // The entry for callers in C: a table file and lent memory in, the cheapest starts and their cost out.
-ghost use Rattle.std.specs.Prelude.{◌≡◌};
-ghost use Rattle.c_interface.specs.Entry.{FileOutcome, EntryOutcome};
+ghost use Rattle.std.specs.Prelude.{◌≡◌, ◌≤◌, pos, negsuc, ◌+ℤ◌, ◌≤ℤ◌};
+ghost use Rattle.c_interface.specs.Entry.{Priced, FileOutcome, EntryOutcome};
 
-use least_cost::plan::Plan;
 use least_cost::plans::cheapest;
+use model::floors::sum_of_floors;
+use model::project::Project;
 use model::refusal::Refusal;
-use table::held::Table;
-use table::project::TableProject;
+use table_file::held::Table;
 use table_file::open::inspect;
 
+// What a list costs that costs so much above the floors.
+fn cost_above(floors: i64, value: u64) -> i64
+    requires low { negsuc 137438953471 ≤ℤ floors }
+    requires high { floors ≤ℤ pos 137438953472 }
+    requires small { value ≤ 128000000000 }
+    ensures { result ≡ floors +ℤ pos value }
+{
+    floors + value as i64
+}
+
+// The cheapest starts of any project, and what they cost: the floors and the value of the flow.
+fn plan_project<P: Project>(
+    project: &P,
+    starts: &mut [u8],
+    flow: &mut [u64],
+    nodes: &mut [u32],
+) -> Result<i64, Refusal>
+    ensures { Priced (P.meaning project.now)
+        starts.old starts.new flow.old flow.new
+        nodes.old nodes.new result }
+{
+    let floors = sum_of_floors(project);
+    match cheapest(project, starts, flow, nodes) {
+        Ok(value) => Ok(cost_above(floors, value)),
+        Err(refusal) => Err(refusal),
+    }
+}
+
+// The same for the project that a table file states, if it has no fault.
 fn plan_file(
     file: &[u8],
     starts: &mut [u8],
     flow: &mut [u64],
     nodes: &mut [u32],
-) -> Result<Plan, Refusal>
+) -> Result<i64, Refusal>
     ensures { FileOutcome file.now
         starts.old starts.new flow.old flow.new
         nodes.old nodes.new result }
 {
-    inspect(file)?;
-    cheapest(&Table::of_inspected(file), starts, flow, nodes)
+    match inspect(file) {
+        Ok(_) => plan_project(&Table::of_inspected(file), starts, flow, nodes),
+        Err(refusal) => Err(refusal),
+    }
 }
 
 /// Opens a table file and writes the cheapest start of each activity into the first n start bytes, and
@@ -43,8 +75,8 @@ pub extern "C" fn campaign_cheapest(
         nodes.old nodes.new cost.old cost.new result }
 {
     match plan_file(file, starts, flow, nodes) {
-        Ok(plan) => {
-            *cost = plan.cost;
+        Ok(least) => {
+            *cost = least;
             0
         }
         Err(refusal) => refusal.code(),

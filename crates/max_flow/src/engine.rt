@@ -8,6 +8,7 @@ ghost use Rattle.max_flow.specs.Outcome.{Solved, Outcome};
 
 use crate::augment::{augment, lay_way};
 use crate::deepen::deepen;
+use crate::rounds::{Start, quick_rounds, start_of};
 use crate::search::search;
 use flow::network::Network;
 use flow::unhindered::UnboundedOnly;
@@ -48,15 +49,16 @@ fn mark(nodes: &mut [u32], count: usize)
     }
 }
 
-/// Raises a flow from none until the sink is not found; its value.
-fn climb<N: Network>(network: &N, flow: &mut [u64], nodes: &mut [u32]) -> u64
+/// Raises a flow from none until the sink is not found; its value. Quick rounds do nearly all of it, and the
+/// whole search shows that nothing is left to do.
+fn climb<N: Network>(network: &N, start: &Start, flow: &mut [u64], nodes: &mut [u32]) -> u64
     requires flows { length flow.old ≡ (N.net network.now).arcs }
     requires four { Four (N.net network.now).nodes nodes.old }
     requires finite { Finite (N.net network.now) }
     requires empty { (k : ℕ) → word flow.old k ≡ 0 }
     ensures { Climbed (N.net network.now) flow.new nodes.new result }
 {
-    let mut value = 0;
+    let mut value = quick_rounds(network, start, flow, nodes, 0);
     while search(network, flow, nodes) {
         lay_way(network, flow, nodes);
         value = augment(network, flow, nodes, value).value;
@@ -77,8 +79,9 @@ fn solve<N: Network>(network: &N, flow: &mut [u64], nodes: &mut [u32]) -> Option
         clear(nodes);
         return None;
     }
+    let start = start_of(network, nodes);
     drain(flow);
-    let value = climb(network, flow, nodes);
+    let value = climb(network, &start, flow, nodes);
     mark(nodes, network.node_count());
     Some(value)
 }

@@ -25,4 +25,5 @@
 mod augment;
 mod deepen;
 pub mod engine;
+mod rounds;
 mod search;

@@ -2,18 +2,16 @@
 // the memory lent.
 use crate::least::{Least, floors_of};
 use crate::network::time_network;
-use least_cost::plan::Plan;
 use least_cost::plans::{cheapest, latest};
 use least_cost::side::Side;
+use model::floors::sum_of_floors;
 use model::project::Project;
 use model::refusal::{Fault, Refusal};
 use trial_projects::memory::{FILLER, cleared, untouched, written};
 
-// Whether a plan tells this cost and these floors, and a value that is the difference.
-fn has_sums(plan: Plan, cost: i64, floors: i64) -> bool {
-    plan.cost == cost
-        && plan.floors == floors
-        && floors as i128 + plan.value as i128 == cost as i128
+// Whether a value is what a list of this cost costs above these floors.
+fn is_above(value: u64, cost: i64, floors: i64) -> bool {
+    floors as i128 + value as i128 == cost as i128
 }
 
 /// How much memory of each kind there is.
@@ -37,7 +35,7 @@ pub struct Called {
     pub starts: [u8; 6],
     pub flow: [u64; 80],
     nodes: [u32; 96],
-    answer: Result<Plan, Refusal>,
+    answer: Result<u64, Refusal>,
 }
 
 fn plan<P: Project>(
@@ -46,7 +44,7 @@ fn plan<P: Project>(
     starts: &mut [u8],
     flow: &mut [u64],
     nodes: &mut [u32],
-) -> Result<Plan, Refusal> {
+) -> Result<u64, Refusal> {
     match side {
         Side::Early => cheapest(project, starts, flow, nodes),
         Side::Late => latest(project, starts, flow, nodes),
@@ -95,8 +93,9 @@ impl Called {
             return false;
         }
         match (self.answer, least) {
-            (Ok(plan), Some(least)) => {
-                has_sums(plan, least.cost, floors_of(project))
+            (Ok(value), Some(least)) => {
+                is_above(value, least.cost, floors_of(project))
+                    && sum_of_floors(project) == floors_of(project)
                     && written(&self.starts, &least.list(side), taken.bytes)
                     && untouched(&self.flow, taken.words as usize)
             }

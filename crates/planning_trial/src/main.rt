@@ -1,3 +1,4 @@
+#![tactic(auto)]
 // Tries the cheapest and the latest starts on some hundred small projects, bare and under layers, against
 // those that trying every list gives; and the check, on what they find and on that damaged in many ways,
 // against its definition. Prints what came out.
