@@ -1,9 +1,9 @@
 /*
  * The campaign planner for callers in C and C++: the cheapest starts of a campaign, from its table file.
  *
- * Build the library with `rt staticlib c_interface` at the top of the repository and link
- * target/staticlib/libc_interface.a. What the words mean stands in docs/MODEL.md, the file byte by byte in
- * docs/FORMAT.md, refusals in docs/REFUSALS.md.
+ * Build the library with `rt lib` in crates/c_interface and link crates/c_interface/out/libc_interface.a. What
+ * the words mean stands in docs/MODEL.md, the file byte by byte in docs/FORMAT.md, refusals in
+ * docs/REFUSALS.md.
  */
 #ifndef CAMPAIGN_PLANNER_H
 #define CAMPAIGN_PLANNER_H

@@ -32,10 +32,8 @@ fn plan_project<P: Project>(
         nodes.old nodes.new result }
 {
     let floors = sum_of_floors(project);
-    match cheapest(project, starts, flow, nodes) {
-        Ok(value) => Ok(cost_above(floors, value)),
-        Err(refusal) => Err(refusal),
-    }
+    let value = cheapest(project, starts, flow, nodes)?;
+    Ok(cost_above(floors, value))
 }
 
 // The same for the project that a table file states, if it has no fault.
@@ -49,10 +47,8 @@ fn plan_file(
         starts.old starts.new flow.old flow.new
         nodes.old nodes.new result }
 {
-    match inspect(file) {
-        Ok(_) => plan_project(&Table::of_inspected(file), starts, flow, nodes),
-        Err(refusal) => Err(refusal),
-    }
+    inspect(file)?;
+    plan_project(&Table::of_inspected(file), starts, flow, nodes)
 }
 
 /// Opens a table file and writes the cheapest start of each activity into the first n start bytes, and

@@ -1,5 +1,5 @@
 -- A small project from any bytes: one to four activities in one to six slots, up to four lags.
-use Rattle.std.specs.Prelude.{◌≡◌, ℕ, ◌+◌, ◌-◌, ◌*◌, ◌<◌, ◌≤◌, min, max, Bool, true, false, cond, ◌&&◌, T, ℤ, pos, negsuc, ◌+ℤ◌, ◌≤ℤ◌, int_le, nat_lt, slice_index, refl}
+use Rattle.std.specs.Prelude.{◌≡◌, ℕ, ◌+◌, ◌-◌, ◌*◌, ◌≤◌, min, max, Bool, true, false, cond, ℤ, pos, negsuc, ◌+ℤ◌, ◌≤ℤ◌, int_le, nat_lt, slice_index, refl}
 use Rattle.std.proofs.Common.{arith}
 use Rattle.std.specs.Float.Ieee.Bits.{is_true}
 use Rattle.std.proofs.lemmas.Bool.{and_from}
@@ -7,7 +7,7 @@ use Rattle.std.proofs.lemmas.Int.{ints}
 use Rattle.model.specs.declared.price.Price.{Price}
 use Rattle.model.specs.declared.price.Price.TheVariants.{Open, Closed}
 use Rattle.model.specs.declared.lag.Lag.{Lag}
-use Rattle.model.specs.Meaning.{Meaning, Bounds, LagWithin, price_fits}
+use Rattle.model.specs.Meaning.{Meaning, Bounds, price_fits}
 use Rattle.trial_projects.specs.declared.drawn.Drawn.{Drawn}
 
 abbrev pub count_of : Drawn → ℕ
