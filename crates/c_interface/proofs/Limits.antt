@@ -1,6 +1,6 @@
 -- A start list that meets a project costs at most 128,000,000,000 above its floors: 64 prices, each at
 -- most 2,000,000,000 above its floor.
-use Rattle.std.proofs.Common.{◌≡◌, ℕ, zero, suc, ◌*◌, ◌<◌, ◌≤◌, List, length, ℤ, pos, ◌+ℤ◌, Ok, Err, Result, subst, ⊎_elim, arith}
+use Rattle.std.proofs.Common.{◌≡◌, ℕ, zero, suc, ◌+◌, ◌-◌, ◌*◌, ◌<◌, ◌≤◌, List, length, ℤ, pos, ◌+ℤ◌, Ok, Err, Result, subst, ⊎_elim, mul-le-mul, arith}
 use Rattle.std.proofs.lemmas.Bool.{cases_lt}
 use Rattle.std.proofs.lemmas.Int.{ints}
 use Rattle.model.specs.declared.refusal.Refusal.{Refusal}
@@ -13,7 +13,10 @@ use Rattle.plan_theory.specs.TimeArcs.{on_capacity, on_exists}
 use Rattle.plan_theory.specs.TimeBounds.{time_bounds}
 use Rattle.plan_theory.proofs.Floors.{excess, cost_above}
 use Rattle.least_cost.specs.declared.side.Side.TheVariants.{Early}
-use Rattle.least_cost.specs.Outcome.{Outcome, words_needed}
+use Rattle.table_file.specs.Stated.{stated}
+use Rattle.table_file.specs.Bounded.{stated_bounds}
+use Rattle.c_interface.specs.Entry.{FullSize, FullSizeIsEnough}
+use Rattle.least_cost.specs.Outcome.{Enough, Outcome, words_needed}
 
 sum_limit : (f : ℕ → ℕ) (n : ℕ) → ((a : ℕ) → a < n → f a ≤ 2000000000) → sum_to f n ≤ 2000000000 * n
 sum_limit f zero each = omega arith
@@ -57,3 +60,18 @@ answered_limit m b starts starts' flow flow' nodes nodes' w x =
     (cases_lt (length nodes) (words_needed m)))
     (cases_lt (length flow) (time_net m).arcs))
     (cases_lt (length starts) m.n)
+
+full_size : (m : Meaning) → Bounds m → (starts flow nodes : List ℕ) → FullSize starts flow nodes → Enough m starts flow nodes
+full_size m b starts flow nodes x =
+    let rows : 2 * m.n + m.lags ≤ 384 = omega (arith, b.n_high, b.lags_ok) in
+    let slots : m.horizon - 1 ≤ 127 = omega (arith, b.h_high) in
+    let arcs : m.horizon * (2 * m.n + m.lags) ≤ 128 * 384 = mul-le-mul b.h_high rows in
+    let inner : m.n * (m.horizon - 1) ≤ 64 * 127 = mul-le-mul b.n_high slots in
+    record {
+      starts_enough = omega (arith, b.n_high, x.starts_full);
+      flow_enough = omega (arith, arcs, x.flow_full);
+      nodes_enough = omega (arith, inner, x.nodes_full);
+    }
+
+pub full_size_is_enough : (file starts flow nodes : List ℕ) → FullSizeIsEnough file starts flow nodes
+full_size_is_enough file starts flow nodes clean x = full_size (stated file) (stated_bounds file clean) starts flow nodes x

@@ -1,13 +1,13 @@
 -- What the C entry answers for a table file, and what it leaves in the memory lent to it. A list is primed
 -- after the call.
-use Rattle.std.specs.Prelude.{◌≡◌, ℕ, List, ℤ, pos, ◌+ℤ◌, Some, None, Ok, Err, Option, Result}
+use Rattle.std.specs.Prelude.{◌≡◌, ℕ, ◌≤◌, true, List, length, ℤ, pos, ◌+ℤ◌, Some, None, Ok, Err, Option, Result}
 use Rattle.model.specs.declared.refusal.Refusal.{Refusal}
 use Rattle.model.specs.Meaning.{Meaning}
 use Rattle.model.specs.Refusals.{code_of}
 use Rattle.model.specs.Starts.{floors}
 use Rattle.least_cost.specs.declared.side.Side.TheVariants.{Early}
-use Rattle.least_cost.specs.Outcome.{Outcome}
-use Rattle.table_file.specs.Format.{file_fault}
+use Rattle.least_cost.specs.Outcome.{Enough, Outcome}
+use Rattle.table_file.specs.Format.{file_fault, faultless}
 use Rattle.table_file.specs.Stated.{stated}
 
 -- what a list costs that costs so much above the floors
@@ -53,3 +53,13 @@ pub record EntryOutcome (file starts starts' flow flow' nodes nodes' : List ℕ)
   pub planned : FileOutcome file starts starts' flow flow' nodes nodes' answer
   pub code_is : code ≡ code_by answer
   pub cost_is : cost' ≡ cost_after answer cost
+
+-- memory of full size, which is enough for every file
+pub record FullSize (starts flow nodes : List ℕ) : Type 0 where
+  pub starts_full : 64 ≤ length starts
+  pub flow_full : 49152 ≤ length flow
+  pub nodes_full : 32520 ≤ length nodes
+
+abbrev pub FullSizeIsEnough : List ℕ → List ℕ → List ℕ → List ℕ → Type 0
+FullSizeIsEnough file starts flow nodes =
+    faultless file ≡ true → FullSize starts flow nodes → Enough (stated file) starts flow nodes

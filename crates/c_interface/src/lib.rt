@@ -1,7 +1,7 @@
 #![tactic(auto)]
 // The entry for callers in C: a table file and lent memory in, the cheapest starts and their cost out.
 ghost use Rattle.std.specs.Prelude.{◌≡◌, ◌≤◌, pos, negsuc, ◌+ℤ◌, ◌≤ℤ◌};
-ghost use Rattle.c_interface.specs.Entry.{Priced, FileOutcome, EntryOutcome};
+ghost use Rattle.c_interface.specs.Entry.{Priced, FileOutcome, EntryOutcome, FullSizeIsEnough};
 
 use least_cost::plans::cheapest;
 use model::floors::sum_of_floors;
@@ -66,9 +66,10 @@ pub extern "C" fn campaign_cheapest(
     nodes: &mut [u32],
     cost: &mut i64,
 ) -> u32
-    ensures { EntryOutcome file.now
+    ensures outcome { EntryOutcome file.now
         starts.old starts.new flow.old flow.new
         nodes.old nodes.new cost.old cost.new result }
+    ensures enough { FullSizeIsEnough file.now starts.old flow.old nodes.old }
 {
     match plan_file(file, starts, flow, nodes) {
         Ok(least) => {
