@@ -1,5 +1,5 @@
 // What is worked out from the prices of an activity.
-ghost use Rattle.std.specs.Prelude.{◌≡◌, pos, negsuc, ◌+ℤ◌, ◌≤ℤ◌};
+ghost use Rattle.std.specs.Prelude.{◌≡◌, pos, negsuc, ◌≤ℤ◌};
 ghost use Rattle.model.specs.Starts.{lower, floor, floors};
 ghost use Rattle.model.specs.Openings.{opened, open_slots};
 
@@ -44,14 +44,6 @@ pub fn open_slots_of<P: Project>(project: &P, activity: u16) -> u16
     count
 }
 
-fn plus(sum: i64, price: i32) -> i64
-    requires low { negsuc 1099511627775 ≤ℤ sum }
-    requires high { sum ≤ℤ pos 1099511627776 }
-    ensures { result ≡ sum +ℤ price }
-{
-    sum + price as i64
-}
-
 /// The sum of the floors of all activities: no start list costs less.
 pub fn sum_of_floors<P: Project>(project: &P) -> i64
     ensures value { result ≡ floors (P.meaning project.now) }
@@ -60,7 +52,7 @@ pub fn sum_of_floors<P: Project>(project: &P) -> i64
 {
     let mut sum: i64 = 0;
     for activity in 0..project.count() {
-        sum = plus(sum, floor_of(project, activity));
+        sum += floor_of(project, activity) as i64;
     }
     sum
 }

@@ -19,57 +19,57 @@ pub enum Layer {
     Check,
 }
 
-/// What is wrong. Each case has one number and one layer.
+/// What is wrong. Each case has one number, by which it is known outside the library, and one layer.
 #[derive(Clone, Copy, PartialEq, Eq, Debug)]
 pub enum Fault {
-    /// 1: the kind letter of a file is unknown.
-    Kind,
-    /// 2: the horizon of a file is not 1 to 128.
-    Horizon,
-    /// 3: the file ends inside a field; the place is its length.
-    Short,
-    /// 4: a count of a file is out of range.
-    Count,
-    /// 5: another field of a file is out of range.
-    Range,
-    /// 6: bytes follow the end of a file; the place is the first.
-    Trailing,
-    /// 7: an activity, a slot or a value of a layer's term is out of range.
-    Term,
-    /// 8: there is no such activity.
-    NoActivity,
-    /// 9: the slot lies at or past the horizon; for a clock, past it.
-    PastHorizon,
-    /// 10: the activity has begun already.
-    AlreadyBegun,
-    /// 11: the slot lies before the clock.
-    BeforeClock,
-    /// 12: the slot is closed in the project below the campaign.
-    ClosedBelow,
-    /// 13: too few start bytes; the place is how many are needed, as with 14, 15 and 16.
-    StartBytes,
-    /// 14: too few flow words.
-    FlowWords,
-    /// 15: too few node words.
-    NodeWords,
-    /// 16: too few chain entries.
-    ChainEntries,
-    /// 17: the file is longer than a program's memory for it.
-    FileTooLong,
-    /// 18: no start list meets the project; the place is the length of the chain that shows it.
-    Impossible,
-    /// 19: unbounded arcs alone lead from the source of a network to its sink.
-    Unbounded,
-    /// 20: a proposed start lies at or past the horizon, or in a closed slot.
-    StartClosed,
-    /// 21: the proposed starts break a lag.
-    LagBroken,
-    /// 22: a flow word lies above its arc's capacity, or above the limit.
-    WordAbove,
-    /// 23: inflow and outflow differ at a node.
-    Unbalanced,
-    /// 24: the value of the flow is not the cost less the floors.
-    ValueDiffers,
+    /// The kind letter of a file is unknown.
+    Kind = 1,
+    /// The horizon of a file is not 1 to 128.
+    Horizon = 2,
+    /// The file ends inside a field; the place is its length.
+    Short = 3,
+    /// A count of a file is out of range.
+    Count = 4,
+    /// Another field of a file is out of range.
+    Range = 5,
+    /// Bytes follow the end of a file; the place is the first.
+    Trailing = 6,
+    /// An activity, a slot or a value of a layer's term is out of range.
+    Term = 7,
+    /// There is no such activity.
+    NoActivity = 8,
+    /// The slot lies at or past the horizon; for a clock, past it.
+    PastHorizon = 9,
+    /// The activity has begun already.
+    AlreadyBegun = 10,
+    /// The slot lies before the clock.
+    BeforeClock = 11,
+    /// The slot is closed in the project below the campaign.
+    ClosedBelow = 12,
+    /// Too few start bytes; the place is how many are needed, as with the next three.
+    StartBytes = 13,
+    /// Too few flow words.
+    FlowWords = 14,
+    /// Too few node words.
+    NodeWords = 15,
+    /// Too few chain entries.
+    ChainEntries = 16,
+    /// The file is longer than a program's memory for it.
+    FileTooLong = 17,
+    /// No start list meets the project; the place is the length of the chain that shows it.
+    Impossible = 18,
+    /// Unbounded arcs alone lead from the source of a network to its sink.
+    Unbounded = 19,
+    /// A proposed start lies at or past the horizon, or in a closed slot.
+    StartClosed = 20,
+    /// The proposed starts break a lag.
+    LagBroken = 21,
+    /// A flow word lies above its arc's capacity, or above the limit.
+    WordAbove = 22,
+    /// Inflow and outflow differ at a node.
+    Unbalanced = 23,
+    /// The value of the flow is not the cost less the floors.
+    ValueDiffers = 24,
 }
 
 impl Fault {
@@ -77,32 +77,7 @@ impl Fault {
     pub fn number(self) -> u16
         ensures { result ≡ number_of self }
     {
-        match self {
-            Fault::Kind => 1,
-            Fault::Horizon => 2,
-            Fault::Short => 3,
-            Fault::Count => 4,
-            Fault::Range => 5,
-            Fault::Trailing => 6,
-            Fault::Term => 7,
-            Fault::NoActivity => 8,
-            Fault::PastHorizon => 9,
-            Fault::AlreadyBegun => 10,
-            Fault::BeforeClock => 11,
-            Fault::ClosedBelow => 12,
-            Fault::StartBytes => 13,
-            Fault::FlowWords => 14,
-            Fault::NodeWords => 15,
-            Fault::ChainEntries => 16,
-            Fault::FileTooLong => 17,
-            Fault::Impossible => 18,
-            Fault::Unbounded => 19,
-            Fault::StartClosed => 20,
-            Fault::LagBroken => 21,
-            Fault::WordAbove => 22,
-            Fault::Unbalanced => 23,
-            Fault::ValueDiffers => 24,
-        }
+        self as u16
     }
 
     /// Who can cause this fault.

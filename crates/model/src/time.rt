@@ -25,8 +25,7 @@ impl Day {
     pub fn number(self) -> u32
         ensures { result ≡ self.0 }
     {
-        let Day(number) = self;
-        number
+        self.0
     }
 }
 
@@ -34,7 +33,6 @@ impl fmt::Display for Day {
     ghost output = { λ d. Some (decimal d.0) };
 
     fn fmt<W: fmt::Write>(&self, f: &mut fmt::Formatter<W>) -> fmt::Result {
-        let number = self.0;
-        write!(f, "{number}")
+        write!(f, "{}", self.0)
     }
 }
