@@ -4,32 +4,34 @@ use Rattle.std.proofs.lemmas.List.{get_or-set_same, get_or-set_other}
 use Rattle.std.proofs.lemmas.Bool.{cases_eq}
 use Rattle.std.proofs.lemmas.Nat.{mul-add-lt}
 use Rattle.model.specs.declared.lag.Lag.{Lag}
+use Rattle.flow.specs.declared.network.Capacity.{Capacity}
+use Rattle.flow.specs.declared.network.Capacity.TheVariants.{Unbounded}
 use Rattle.model.specs.Meaning.{Meaning}
 use Rattle.model.specs.Starts.{floor}
-use Rattle.time_network.specs.Held.{lag_at, no_lag}
-use Rattle.time_network.specs.Making.{word_of, Written, Row, Priced, Copied}
+use Rattle.time_network.specs.Held.{lag_at, no_lag, capacity_at}
+use Rattle.time_network.specs.Making.{rise, Written, Row, Priced, Copied}
 
-pub row_none : (m : Meaning) (a : ℕ) (words : List ℕ) → Row m a 0 words words
-row_none m a words = record { filled = λ t l. absurd (omega arith); kept = λ j l. refl }
+pub row_none : (m : Meaning) (a : ℕ) (capacities : List Capacity) → Row m a 0 capacities capacities
+row_none m a capacities = record { filled = λ t l. absurd (omega arith); kept = λ j l. refl }
 
-pub row_more : (m : Meaning) (a t : ℕ) (before words : List ℕ) (place v : ℕ) → Row m a t before words
-    → place ≡ a * m.horizon + t → place < length words → v ≡ word_of (floor m a) (m.price a t)
-    → Row m a (t + 1) before (set words place v)
-row_more m a t before words place v r e l is =
+pub row_more : (m : Meaning) (a t : ℕ) (before capacities : List Capacity) (place : ℕ) (v : Capacity) → Row m a t before capacities
+    → place ≡ a * m.horizon + t → place < length capacities → v ≡ rise (floor m a) (m.price a t)
+    → Row m a (t + 1) before (set capacities place v)
+row_more m a t before capacities place v r e l is =
     record {
       filled = λ i li. ⊎_elim
           (λ same.
-          subst (λ (x : ℕ). Written m a x (set words place v)) (sym same)
-          (ap (λ (x : ℕ). get_or (set words place v) x 0) (sym e) ∙ (get_or-set_same words place v 0 l ∙ is)))
-          (λ ne. get_or-set_other words place (a * m.horizon + i) v 0 (λ x. ne (omega arith)) ∙ r.filled i (omega arith))
+          subst (λ (x : ℕ). Written m a x (set capacities place v)) (sym same)
+          (ap (capacity_at (set capacities place v)) (sym e) ∙ (get_or-set_same capacities place v Unbounded l ∙ is)))
+          (λ ne. get_or-set_other capacities place (a * m.horizon + i) v Unbounded (λ x. ne (omega arith)) ∙ r.filled i (omega arith))
           (cases_eq i t);
-      kept = λ j lj. get_or-set_other words place j v 0 (λ x. omega arith) ∙ r.kept j lj;
+      kept = λ j lj. get_or-set_other capacities place j v Unbounded (λ x. omega arith) ∙ r.kept j lj;
     }
 
-pub priced_none : (m : Meaning) (words : List ℕ) → Priced m 0 words
-priced_none m words = record { written = λ a t la lt. absurd (omega arith) }
+pub priced_none : (m : Meaning) (capacities : List Capacity) → Priced m 0 capacities
+priced_none m capacities = record { written = λ a t la lt. absurd (omega arith) }
 
-pub priced_more : (m : Meaning) (a : ℕ) (before after : List ℕ) → Priced m a before
+pub priced_more : (m : Meaning) (a : ℕ) (before after : List Capacity) → Priced m a before
     → Row m a m.horizon before after → Priced m (a + 1) after
 priced_more m a before after p r =
     record {

@@ -6,14 +6,15 @@ use Rattle.std.proofs.lemmas.Nat.{mul-add-lt}
 use Rattle.model.specs.declared.price.Price.{Price}
 use Rattle.model.specs.declared.price.Price.TheVariants.{Open, Closed}
 use Rattle.model.specs.declared.lag.Lag.{Lag}
+use Rattle.flow.specs.declared.network.Capacity.{Capacity}
 use Rattle.model.specs.Meaning.{Meaning, Bounds, LagWithin}
 use Rattle.model.specs.Starts.{is_open, floor}
 use Rattle.plan_theory.specs.TimeNetwork.{point, cut_to, above, on_arc, back_arc, lag_arc, time_net}
 use Rattle.plan_theory.specs.TimeArcs.{on_tail, on_head, on_capacity, on_unbounded, back_tail, back_head, back_capacity, back_unbounded, lag_tail_is, lag_head_is, lag_capacity, lag_unbounded, on_exists, each_arc}
 use Rattle.plan_theory.specs.TimeBounds.{time_bounds}
 use Rattle.time_network.specs.Agreement.{Same}
-use Rattle.time_network.specs.Held.{lag_fits, LagsFit, held, held_net, amount, bounds_none}
-use Rattle.time_network.specs.Making.{word_of, Priced, Copied}
+use Rattle.time_network.specs.Held.{lag_fits, LagsFit, held, held_net, capacity_at, amount, bounds_none, WithinLimit}
+use Rattle.time_network.specs.Making.{rise, Priced, Copied}
 
 T_true : (x : Bool) → T x → x ≡ true
 T_true true t = refl
@@ -32,16 +33,15 @@ lags_fit m b n count lags e f c k l =
     let lk : k < m.lags = omega arith in
     ap (lag_fits n) (c.copied k lk) ∙ (ap (λ (x : ℕ). lag_fits x (m.lag k)) e ∙ within_fits m.n (m.lag k) (b.lag_ok k lk))
 
--- a word is read as it was written
-amount_read : (low : ℤ) (p : Price) → above low p ≤ 2000000000 → amount (word_of low p) ≡ above low p
-amount_read low (Open p) l = cond-false _ _ _ (le-ltb 2000000000 (nat_abs (p -ℤ low)) l)
-amount_read low (Closed height) l = refl
+amount_of : (low : ℤ) (p : Price) → amount (rise low p) ≡ above low p
+amount_of low (Open p) = refl
+amount_of low (Closed height) = refl
 
-none_read : (low : ℤ) (p : Price) → above low p ≤ 2000000000 → bounds_none (word_of low p) ≡ not (is_open p)
-none_read low (Open p) l = le-ltb 2000000000 (nat_abs (p -ℤ low)) l
-none_read low (Closed height) l = refl
+none_of : (low : ℤ) (p : Price) → bounds_none (rise low p) ≡ not (is_open p)
+none_of low (Open p) = refl
+none_of low (Closed height) = refl
 
-module _ (m : Meaning) (b : Bounds m) (lags : List Lag) (words : List ℕ) (c : Copied m m.lags lags) (p : Priced m m.n words) where
+module _ (m : Meaning) (b : Bounds m) (lags : List Lag) (capacities : List Capacity) (c : Copied m m.lags lags) (p : Priced m m.n capacities) where
   abbrev x : Meaning
   x = held m.n m.horizon m.lags lags
 
@@ -71,29 +71,41 @@ module _ (m : Meaning) (b : Bounds m) (lags : List Lag) (words : List ℕ) (c : 
       ∙ (ap (λ (l : Lag). point m.horizon l.to (cut_to m.horizon (pos t +ℤ l.gap))) (c.copied k lk)
       ∙ sym (lag_head_is m k t lt)))
 
-  same_capacity : (k : ℕ) → k < (time_net m).arcs → (held_net x words).capacity k ≡ (time_net m).capacity k
-  same_capacity = each_arc m b (λ k. (held_net x words).capacity k ≡ (time_net m).capacity k)
+  same_capacity : (k : ℕ) → k < (time_net m).arcs → (held_net x capacities).capacity k ≡ (time_net m).capacity k
+  same_capacity = each_arc m b (λ k. (held_net x capacities).capacity k ≡ (time_net m).capacity k)
       (λ a t la lt.
       cond-true _ _ _ (lt-ltb (on_arc m a t) (m.n * m.horizon) (on_low a t la lt))
       ∙ (ap amount (p.written a t la lt)
-      ∙ (amount_read (floor m a) (m.price a t) (rise_limit a t la lt) ∙ sym (on_capacity m a t la lt))))
+      ∙ (amount_of (floor m a) (m.price a t) ∙ sym (on_capacity m a t la lt))))
       (λ a t la lt.
       cond-false _ _ _ (le-ltb (back_arc m a t) (m.n * m.horizon) (omega arith)) ∙ sym (back_capacity m a t la lt))
       (λ k t lk lt.
       cond-false _ _ _ (le-ltb (lag_arc m k t) (m.n * m.horizon) (omega arith)) ∙ sym (lag_capacity m k t lt))
 
-  same_unbounded : (k : ℕ) → k < (time_net m).arcs → (held_net x words).unbounded k ≡ (time_net m).unbounded k
-  same_unbounded = each_arc m b (λ k. (held_net x words).unbounded k ≡ (time_net m).unbounded k)
+  same_unbounded : (k : ℕ) → k < (time_net m).arcs → (held_net x capacities).unbounded k ≡ (time_net m).unbounded k
+  same_unbounded = each_arc m b (λ k. (held_net x capacities).unbounded k ≡ (time_net m).unbounded k)
       (λ a t la lt.
       cond-true _ _ _ (lt-ltb (on_arc m a t) (m.n * m.horizon) (on_low a t la lt))
       ∙ (ap bounds_none (p.written a t la lt)
-      ∙ (none_read (floor m a) (m.price a t) (rise_limit a t la lt) ∙ sym (on_unbounded m a t la lt))))
+      ∙ (none_of (floor m a) (m.price a t) ∙ sym (on_unbounded m a t la lt))))
       (λ a t la lt.
       cond-false _ _ _ (le-ltb (back_arc m a t) (m.n * m.horizon) (omega arith)) ∙ sym (back_unbounded m a t la lt))
       (λ k t lk lt.
       cond-false _ _ _ (le-ltb (lag_arc m k t) (m.n * m.horizon) (omega arith)) ∙ sym (lag_unbounded m k t lt))
 
-  same_here : Same (held_net x words) (time_net m)
+  limited_here : (k : ℕ) → k < (time_net m).arcs → k < m.n * m.horizon → amount (capacity_at capacities k) ≤ 2000000000
+  limited_here = each_arc m b (λ k. k < m.n * m.horizon → amount (capacity_at capacities k) ≤ 2000000000)
+      (λ a t la lt l.
+      omega (arith, ap amount (p.written a t la lt) ∙ amount_of (floor m a) (m.price a t), rise_limit a t la lt))
+      (λ a t la lt l. absurd (omega arith))
+      (λ k t lk lt l. absurd (omega arith))
+
+  pub limited : (n h : ℕ) → n ≡ m.n → h ≡ m.horizon → WithinLimit (n * h) capacities
+  limited n h e f k l =
+      let inside : k < m.n * m.horizon = rw (← e, ← f) l in
+      limited_here k (omega arith) inside
+
+  same_here : Same (held_net x capacities) (time_net m)
   same_here =
       record {
         nodes = refl;
@@ -105,8 +117,8 @@ module _ (m : Meaning) (b : Bounds m) (lags : List Lag) (words : List ℕ) (c : 
       }
 
   pub same_made : (n h count : ℕ) → n ≡ m.n → h ≡ m.horizon → count ≡ m.lags
-      → Same (held_net (held n h count lags) words) (time_net m)
+      → Same (held_net (held n h count lags) capacities) (time_net m)
   same_made n h count e f g =
-      subst (λ (i : ℕ). Same (held_net (held i h count lags) words) (time_net m)) (sym e)
-      (subst (λ (i : ℕ). Same (held_net (held m.n i count lags) words) (time_net m)) (sym f)
-      (subst (λ (i : ℕ). Same (held_net (held m.n m.horizon i lags) words) (time_net m)) (sym g) same_here))
+      subst (λ (i : ℕ). Same (held_net (held i h count lags) capacities) (time_net m)) (sym e)
+      (subst (λ (i : ℕ). Same (held_net (held m.n i count lags) capacities) (time_net m)) (sym f)
+      (subst (λ (i : ℕ). Same (held_net (held m.n m.horizon i lags) capacities) (time_net m)) (sym g) same_here))

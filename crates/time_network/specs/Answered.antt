@@ -1,6 +1,7 @@
 -- A time network lists the arcs at its nodes.
 use Rattle.std.specs.Prelude.{ℕ, List, Option}
 use Rattle.model.specs.Meaning.{Meaning}
+use Rattle.flow.specs.declared.network.Capacity.{Capacity}
 use Rattle.flow.specs.declared.network.Step.{Step}
 use Rattle.flow.specs.Answers.{Lists, Adjacent}
 use Rattle.plan_theory.specs.TimeNetwork.{time_net}
@@ -10,9 +11,9 @@ use Rattle.time_network.specs.Meant.{meant, net_of, meant_bounds}
 use Rattle.time_network.specs.Listing.{decode, outward, inward}
 use Rattle.time_network.specs.Adjacency.{outward_lists, inward_lists}
 
-same_lists : (m : Meaning) (words : List ℕ) (near far : ℕ → ℕ) (v : ℕ) (answer : ℕ → Option Step)
-    → Lists (time_net m) near far v answer → Lists (held_net m words) near far v answer
-same_lists m words near far v answer l =
+same_lists : (m : Meaning) (capacities : List Capacity) (near far : ℕ → ℕ) (v : ℕ) (answer : ℕ → Option Step)
+    → Lists (time_net m) near far v answer → Lists (held_net m capacities) near far v answer
+same_lists m capacities near far v answer l =
     record {
       sound = λ c s e.
           let x = l.sound c s e in

@@ -1,13 +1,15 @@
--- What a time network holds: the lags of a project with an index, and a word for the capacity of each price
--- arc. As to ends of arcs it is the time network of a project that has these lags.
-use Rattle.std.specs.Prelude.{◌≡◌, ℕ, ◌+◌, ◌*◌, ◌<◌, ◌≤◌, Bool, true, cond, ◌&&◌, List, pos, negsuc, ◌==◌, int_le, nat_lt, slice_index, slice_index_or, refl}
+-- What a time network holds: the lags of a project with an index, and the capacity of each price arc. As to
+-- ends of arcs it is the time network of a project that has these lags.
+use Rattle.std.specs.Prelude.{◌≡◌, ℕ, ◌+◌, ◌*◌, ◌<◌, ◌≤◌, Bool, true, false, cond, ◌&&◌, List, pos, negsuc, ◌==◌, int_le, nat_lt, slice_index, slice_index_or, refl}
 use Rattle.std.proofs.Common.{arith}
-use Rattle.std.proofs.lemmas.Bool.{ltb-true, ltb-false, and_parts, cond_both}
+use Rattle.std.proofs.lemmas.Bool.{ltb-true, and_parts, cond_both}
 use Rattle.std.proofs.lemmas.Int.{ints}
 use Rattle.model.specs.declared.price.Price.TheVariants.{Closed}
 use Rattle.model.specs.declared.lag.Lag.{Lag}
 use Rattle.model.specs.Meaning as meanings
 use Rattle.model.specs.Meaning.{Meaning, LagWithin}
+use Rattle.flow.specs.declared.network.Capacity.{Capacity}
+use Rattle.flow.specs.declared.network.Capacity.TheVariants.{Bounded, Unbounded}
 use Rattle.flow.specs.Nets.{Net, Bounds}
 use Rattle.plan_theory.specs.TimeNetwork.{time_net}
 use Rattle.plan_theory.specs.TimeBounds.{time_bounds}
@@ -62,22 +64,32 @@ held n h count lags =
       height = 0;
     }
 
--- a word for a capacity: one above the limit of capacities stands for any amount
-abbrev pub bounds_none : ℕ → Bool
-bounds_none w = nat_lt 2000000000 w
+-- the capacity of price arc k
+abbrev pub capacity_at : List Capacity → ℕ → Capacity
+capacity_at capacities k = slice_index_or capacities k Unbounded
 
-abbrev pub amount : ℕ → ℕ
-amount w = cond (bounds_none w) 0 w
+abbrev pub bounds_none : Capacity → Bool
+bounds_none (Bounded most) = false
+bounds_none Unbounded = true
 
-abbrev pub held_net : Meaning → List ℕ → Net
-held_net m words =
+-- what a capacity bounds an arc to; of an unbounded one it is of no account
+abbrev pub amount : Capacity → ℕ
+amount (Bounded most) = most
+amount Unbounded = 0
+
+-- none of the first capacities lies above what a network may carry
+abbrev pub WithinLimit : ℕ → List Capacity → Type 0
+WithinLimit count capacities = (k : ℕ) → k < count → amount (capacity_at capacities k) ≤ 2000000000
+
+abbrev pub held_net : Meaning → List Capacity → Net
+held_net m capacities =
     record {
       nodes = (time_net m).nodes;
       arcs = (time_net m).arcs;
       tail = (time_net m).tail;
       head = (time_net m).head;
-      capacity = λ k. cond (nat_lt k (m.n * m.horizon)) (amount (slice_index words k)) 0;
-      unbounded = λ k. cond (nat_lt k (m.n * m.horizon)) (bounds_none (slice_index words k)) true;
+      capacity = λ k. cond (nat_lt k (m.n * m.horizon)) (amount (capacity_at capacities k)) 0;
+      unbounded = λ k. cond (nat_lt k (m.n * m.horizon)) (bounds_none (capacity_at capacities k)) true;
     }
 
 pub lag_within : (n : ℕ) (l : Lag) → lag_fits n l ≡ true → LagWithin n l
@@ -107,17 +119,15 @@ held_bounds n h count lags a b c d e f =
       height_ok = omega arith;
     }
 
-amount_limit : (w : ℕ) → amount w ≤ 2000000000
-amount_limit w = cond_both (bounds_none w) 0 w (λ x. x ≤ 2000000000) (λ e. omega arith) (λ e. omega (arith, ltb-false 2000000000 w e))
-
-pub held_net_bounds : (m : Meaning) (words : List ℕ) → meanings.Bounds m → Bounds (held_net m words)
-held_net_bounds m words b =
+pub held_net_bounds : (m : Meaning) (capacities : List Capacity) → meanings.Bounds m
+    → WithinLimit (m.n * m.horizon) capacities → Bounds (held_net m capacities)
+held_net_bounds m capacities b limited =
     let x = time_bounds m b in
     record {
       sound = record { two = x.sound.two; tails = x.sound.tails; heads = x.sound.heads };
       nodes_limit = x.nodes_limit;
       arcs_limit = x.arcs_limit;
       capacity_limit = λ k l.
-          cond_both (nat_lt k (m.n * m.horizon)) (amount (slice_index words k)) 0 (λ y. y ≤ 2000000000)
-          (λ e. amount_limit (slice_index words k)) (λ e. omega arith);
+          cond_both (nat_lt k (m.n * m.horizon)) (amount (capacity_at capacities k)) 0 (λ y. y ≤ 2000000000)
+          (λ e. limited k (ltb-true k (m.n * m.horizon) e)) (λ e. omega arith);
     }

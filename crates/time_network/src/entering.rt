@@ -54,7 +54,7 @@ impl TimeNetwork {
         }
         let k = place / 128;
         let t = self.cut_slot(side, place % 128);
-        let arc = 2 * self.size() + self.in_row(k, t);
+        let arc = self.lag_arc(k, t);
         let node = self.point(self.lag(k).from as usize, t);
         Some(Step {
             arc,
@@ -68,7 +68,7 @@ impl TimeNetwork {
         ensures { result ≡ lists.entering_source (meant self.now) cursor }
     {
         if cursor < self.activities {
-            let arc = self.size() + self.in_row(cursor, 0);
+            let arc = self.back_arc(cursor, 0);
             return Some(Step {
                 arc,
                 node: self.point(cursor, 1),
@@ -87,7 +87,7 @@ impl TimeNetwork {
     {
         if cursor < self.activities {
             let t = self.horizon - 1;
-            let arc = self.in_row(cursor, t);
+            let arc = self.on_arc(cursor, t);
             return Some(Step {
                 arc,
                 node: self.point(cursor, t),
@@ -148,7 +148,7 @@ impl TimeNetwork {
             return None;
         }
         let t = self.begin(at, k);
-        let arc = 2 * self.size() + self.in_row(k, t);
+        let arc = self.lag_arc(k, t);
         let node = self.point(self.lag(k).from as usize, t);
         Some(Step {
             arc,
@@ -163,7 +163,7 @@ impl TimeNetwork {
         let activity = at.activity as usize;
         let t = at.before as usize;
         Step {
-            arc: self.in_row(activity, t),
+            arc: self.on_arc(activity, t),
             node: self.point(activity, t),
             next: 1,
         }
@@ -176,7 +176,7 @@ impl TimeNetwork {
         let t = at.before as usize + 1;
         let next = 2 + self.ends.first[activity] as usize;
         Step {
-            arc: self.size() + self.in_row(activity, t),
+            arc: self.back_arc(activity, t),
             node: self.point(activity, t + 1),
             next,
         }

@@ -1,19 +1,20 @@
 // What the time network of a project holds of it.
-ghost use Rattle.std.specs.Prelude.{◌≤◌};
+ghost use Rattle.std.specs.Prelude.{◌*◌, ◌≤◌};
 ghost use Rattle.time_network.specs.declared.index.End.TheVariants.{From, To};
-ghost use Rattle.time_network.specs.Held.{LagsFit, Indexed};
+ghost use Rattle.time_network.specs.Held.{WithinLimit, LagsFit, Indexed};
 
 use crate::index::Index;
+use flow::network::Capacity;
 use model::lag::Lag;
 
 /// The time network of a project. Only the first `lag_count` lags count, and of the capacities the first
-/// `activities · horizon`: a word for each price arc, above 2,000,000,000 if the arc is unbounded.
+/// `activities · horizon`, one for each price arc.
 #[derive(Clone, Copy)]
 pub struct TimeNetwork {
     pub(crate) activities: usize,
     pub(crate) horizon: usize,
     pub(crate) lag_count: usize,
-    pub(crate) capacities: [u32; 8192],
+    pub(crate) capacities: [Capacity; 8192],
     pub(crate) lags: [Lag; 256],
     pub(crate) leads: Index,
     pub(crate) ends: Index,
@@ -22,6 +23,7 @@ pub struct TimeNetwork {
     ghost ahead: { 1 ≤ horizon },
     ghost near: { horizon ≤ 128 },
     ghost counted: { lag_count ≤ 256 },
+    ghost limited: { WithinLimit (activities * horizon) capacities },
     ghost joined: { LagsFit activities lag_count lags },
     ghost leading: { Indexed From lags lag_count leads },
     ghost ending: { Indexed To lags lag_count ends },

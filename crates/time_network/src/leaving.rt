@@ -13,7 +13,7 @@ impl TimeNetwork {
         ensures { result ≡ lists.leaving_source (meant self.now) cursor }
     {
         if cursor < self.activities {
-            let arc = self.in_row(cursor, 0);
+            let arc = self.on_arc(cursor, 0);
             return Some(Step {
                 arc,
                 node: self.point(cursor, 1),
@@ -25,7 +25,7 @@ impl TimeNetwork {
             return None;
         }
         let lag = self.lag(k);
-        let arc = 2 * self.size() + self.in_row(k, 0);
+        let arc = self.lag_arc(k, 0);
         let node = self.point(lag.to as usize, self.moved(0, lag.gap));
         Some(Step {
             arc,
@@ -42,7 +42,7 @@ impl TimeNetwork {
             return None;
         }
         let t = self.horizon - 1;
-        let arc = self.size() + self.in_row(cursor, t);
+        let arc = self.back_arc(cursor, t);
         Some(Step {
             arc,
             node: self.point(cursor, t),
@@ -56,7 +56,7 @@ impl TimeNetwork {
         let activity = at.activity as usize;
         let t = at.before as usize;
         Step {
-            arc: self.size() + self.in_row(activity, t),
+            arc: self.back_arc(activity, t),
             node: self.point(activity, t),
             next: 1,
         }
@@ -69,7 +69,7 @@ impl TimeNetwork {
         let t = at.before as usize + 1;
         let next = 2 + self.leads.first[activity] as usize;
         Step {
-            arc: self.in_row(activity, t),
+            arc: self.on_arc(activity, t),
             node: self.point(activity, t + 1),
             next,
         }
@@ -86,7 +86,7 @@ impl TimeNetwork {
             return None;
         }
         let t = at.before as usize + 1;
-        let arc = 2 * self.size() + self.in_row(k, t);
+        let arc = self.lag_arc(k, t);
         let node = self.point(lag.to as usize, self.moved(t, lag.gap));
         Some(Step {
             arc,

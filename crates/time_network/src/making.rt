@@ -3,12 +3,13 @@ ghost use Rattle.std.specs.Prelude.{◌≡◌, ◌<◌, ◌≤◌};
 ghost use Rattle.model.specs.Starts.{floor};
 ghost use Rattle.plan_theory.specs.TimeNetwork.{time_net};
 ghost use Rattle.time_network.specs.Agreement.{Same};
-ghost use Rattle.time_network.specs.Making.{word_of, RowWritten, AllPriced, AllCopied};
+ghost use Rattle.time_network.specs.Making.{rise, RowWritten, AllPriced, AllCopied};
 ghost use Rattle.time_network.specs.Meant.{net_of};
 
 use crate::held::TimeNetwork;
 use crate::index::End;
 use crate::indexing::index_of;
+use flow::network::Capacity;
 use model::floors::floor_of;
 use model::lag::Lag;
 use model::price::Price;
@@ -21,58 +22,55 @@ const NO_LAG: Lag = Lag {
     gap: 0,
 };
 
-/// The word for the capacity of a price arc.
-fn word_of(price: Price, low: i32) -> u32
-    ensures { result ≡ word_of low price }
+/// The capacity of a price arc.
+fn rise(price: Price, low: i32) -> Capacity
+    ensures { result ≡ rise low price }
 {
     match price {
-        Price::Open(p) => p.abs_diff(low),
-        Price::Closed(_) => u32::MAX,
+        Price::Open(p) => Capacity::Bounded(p.abs_diff(low)),
+        Price::Closed(_) => Capacity::Unbounded,
     }
 }
 
-fn word_at<P: Project>(project: &P, activity: u16, slot: u16, low: i32) -> u32
+fn rise_at<P: Project>(project: &P, activity: u16, slot: u16, low: i32) -> Capacity
     requires { (activity < (P.meaning project.now).n) × (slot < (P.meaning project.now).horizon) }
-    ensures { result ≡ word_of low ((P.meaning project.now).price activity slot) }
+    ensures { result ≡ rise low ((P.meaning project.now).price activity slot) }
 {
     match project.price(activity, Slot(slot)) {
-        Some(price) => word_of(price, low),
-        None => u32::MAX,
+        Some(price) => rise(price, low),
+        None => Capacity::Unbounded,
     }
 }
 
-/// Writes the words of an activity.
-fn write_row<P: Project>(project: &P, activity: u16, words: &mut [u32; 8192])
+/// Writes the capacities of an activity.
+fn write_row<P: Project>(project: &P, activity: u16, capacities: &mut [Capacity; 8192])
     requires { activity < (P.meaning project.now).n }
     ensures { RowWritten (P.meaning project.now) activity
-        words.old words.new }
+        capacities.old capacities.new }
 {
     let low = floor_of(project, activity);
     let horizon = project.horizon();
     let base = activity as usize * horizon as usize;
     for t in 0..horizon {
-        words[base + t as usize] = word_at(project, activity, t, low);
+        capacities[base + t as usize] = rise_at(project, activity, t, low);
     }
 }
 
-fn words_of<P: Project>(project: &P) -> [u32; 8192]
+fn capacities_of<P: Project>(project: &P) -> [Capacity; 8192]
     ensures { AllPriced (P.meaning project.now) result }
 {
-    let mut words = [0; 8192];
+    let mut capacities = [Capacity::Unbounded; 8192];
     for a in 0..project.count() {
-        write_row(project, a, &mut words);
+        write_row(project, a, &mut capacities);
     }
-    words
+    capacities
 }
 
 fn lag_of<P: Project>(project: &P, k: u16) -> Lag
     requires { k < (P.meaning project.now).lags }
     ensures { result ≡ (P.meaning project.now).lag k }
 {
-    match project.lag(k) {
-        Some(lag) => lag,
-        None => NO_LAG,
-    }
+    project.lag(k).unwrap_or(NO_LAG)
 }
 
 fn lags_of<P: Project>(project: &P) -> [Lag; 256]
@@ -96,7 +94,7 @@ impl TimeNetwork {
         let lags = lags_of(project);
         let leads = index_of(&lags, lag_count, End::From);
         let ends = index_of(&lags, lag_count, End::To);
-        let capacities = words_of(project);
+        let capacities = capacities_of(project);
         TimeNetwork {
             activities,
             horizon,

@@ -6,7 +6,6 @@ ghost use Rattle.time_network.specs.Answered.{net_adjacent};
 
 use crate::held::TimeNetwork;
 use crate::place::Place;
-use crate::points::capacity_of;
 use flow::network::{Arc, Capacity, Network, Step};
 
 /// Each answer takes a fixed number of steps, but that an entering arc passes over lags that have none there.
@@ -45,7 +44,7 @@ impl Network for TimeNetwork {
 
     fn capacity(&self, k: usize) -> Option<Capacity> {
         if k < self.size() {
-            Some(capacity_of(self.capacities[k]))
+            Some(self.capacities[k])
         } else if k < self.arcs() {
             Some(Capacity::Unbounded)
         } else {

@@ -1,34 +1,18 @@
 // Points, arcs and capacities of a time network by their numbers.
-ghost use Rattle.std.specs.Prelude.{◌≡◌, ◌+◌, ◌-◌, ◌*◌, ◌/◌, ◌%◌, ◌<◌, ◌≤◌, pos, ◌+ℤ◌, if◌then◌else◌};
-ghost use Rattle.flow.specs.declared.network.Capacity.TheVariants.{Bounded, Unbounded};
+ghost use Rattle.std.specs.Prelude.{◌≡◌, ◌+◌, ◌-◌, ◌*◌, ◌/◌, ◌%◌, ◌<◌, ◌≤◌, pos, ◌+ℤ◌};
 ghost use Rattle.plan_theory.specs.TimeNetwork as nets;
-ghost use Rattle.time_network.specs.Held.{bounds_none, amount};
 ghost use Rattle.time_network.specs.Meant.{meant, net_of};
 ghost use Rattle.time_network.specs.Listing.{decode};
 
 use crate::held::TimeNetwork;
 use crate::place::{Place, Point};
-use flow::network::Capacity;
 use model::lag::Lag;
-
-/// No capacity is greater; a word above it stands for any amount.
-pub(crate) const LIMIT: u32 = 2_000_000_000;
 
 /// The two ends of an arc.
 #[derive(Clone, Copy)]
 pub(crate) struct Ends {
     pub tail: usize,
     pub head: usize,
-}
-
-pub(crate) fn capacity_of(word: u32) -> Capacity
-    ensures { result ≡ (if bounds_none word then Unbounded else Bounded (amount word)) }
-{
-    if word > LIMIT {
-        Capacity::Unbounded
-    } else {
-        Capacity::Bounded(word)
-    }
 }
 
 impl TimeNetwork {
@@ -47,6 +31,30 @@ impl TimeNetwork {
         ensures small { result < 65536 }
     {
         row * self.horizon + t
+    }
+
+    /// The arc on from a slot of an activity to the next.
+    pub(crate) fn on_arc(&self, activity: usize, t: usize) -> usize
+        requires { (activity < 256) × (t < 1024) }
+        ensures { result ≡ nets.on_arc (meant self.now) activity t }
+    {
+        self.in_row(activity, t)
+    }
+
+    /// The arc back to a slot of an activity from the next.
+    pub(crate) fn back_arc(&self, activity: usize, t: usize) -> usize
+        requires { (activity < 256) × (t < 1024) }
+        ensures { result ≡ nets.back_arc (meant self.now) activity t }
+    {
+        self.size() + self.in_row(activity, t)
+    }
+
+    /// The arc of a lag from a slot.
+    pub(crate) fn lag_arc(&self, k: usize, t: usize) -> usize
+        requires { (k < 256) × (t < 1024) }
+        ensures { result ≡ nets.lag_arc (meant self.now) k t }
+    {
+        2 * self.size() + self.in_row(k, t)
     }
 
     pub(crate) fn arcs(&self) -> usize
@@ -87,11 +95,7 @@ impl TimeNetwork {
     pub(crate) fn cut(&self, at: i32) -> usize
         ensures { result ≡ nets.cut_to self.now.horizon at }
     {
-        if at < 0 {
-            0
-        } else {
-            (at as usize).min(self.horizon)
-        }
+        at.clamp(0, self.horizon as i32) as usize
     }
 
     pub(crate) fn lag(&self, k: usize) -> Lag
@@ -158,18 +162,17 @@ impl TimeNetwork {
     pub(crate) fn place_of(&self, v: usize) -> Place
         ensures { result ≡ decode (meant self.now) v }
     {
-        if v == 0 {
-            Place::Source
-        } else if v == 1 {
-            Place::Sink
-        } else if v < self.nodes() {
-            let width = self.horizon - 1;
-            Place::Inner(Point {
-                activity: ((v - 2) / width) as u8,
-                before: ((v - 2) % width) as u8,
-            })
-        } else {
-            Place::Sink
+        match v {
+            0 => Place::Source,
+            1 => Place::Sink,
+            _ if v < self.nodes() => {
+                let width = self.horizon - 1;
+                Place::Inner(Point {
+                    activity: ((v - 2) / width) as u8,
+                    before: ((v - 2) % width) as u8,
+                })
+            }
+            _ => Place::Sink,
         }
     }
 }

@@ -4,8 +4,8 @@ use Rattle.std.proofs.lemmas.List.{length-set}
 use Rattle.time_network.proofs.Fills.{row_none, row_more}
 use Rattle.time_network.proofs.making.write_row.Goals as goal
 
-pub bounds-words-base : goal.bounds-words-base
-bounds-words-base g c =
+pub bounds-capacities-base : goal.bounds-capacities-base
+bounds-capacities-base g c =
     let m = g.P.Project.meaning c.args.project.now in
     let b = g.P.Project.bounded c.args.project.now in
     let e = c.horizon-horizon.ensures in
@@ -14,15 +14,15 @@ bounds-words-base g c =
     omega arith
 
 pub loop-t-init : goal.loop-t-init
-loop-t-init g c = (row_none _ _ _, c.told-words)
+loop-t-init g c = (row_none _ _ _, c.told-capacities)
 
 pub loop-t-preserved : goal.loop-t-preserved
 loop-t-preserved g c =
     let m = g.P.Project.meaning c.args.project.now in
     let place : ℕ = c.args.activity * c.horizon-horizon.result + c.loop-t.t in
-    let inside : place < 8192 = bounds-words-base g c in (
-      row_more m c.args.activity c.loop-t.t c.args.words.now c.loop-t.words place c.word_at.result
+    let inside : place < 8192 = bounds-capacities-base g c in (
+      row_more m c.args.activity c.loop-t.t c.args.capacities.now c.loop-t.capacities place c.rise_at.result
           c.loop-t.invariant.0 (ap (λ (x : ℕ). c.args.activity * x + c.loop-t.t) c.horizon-horizon.ensures)
           (omega (arith, c.loop-t.invariant.1)) (search rules),
-      length-set c.loop-t.words place c.word_at.result ∙ c.loop-t.invariant.1,
+      length-set c.loop-t.capacities place c.rise_at.result ∙ c.loop-t.invariant.1,
     )

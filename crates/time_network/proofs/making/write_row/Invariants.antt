@@ -4,4 +4,4 @@ use Rattle.time_network.proofs.making.write_row.Given as goal
 
 abbrev pub invariant-loop-t : goal.invariant-loop-t
 invariant-loop-t g l =
-    Row (g.P.Project.meaning l.project) l.activity l.t l.initial.words l.words × (length l.words ≡ 8192)
+    Row (g.P.Project.meaning l.project) l.activity l.t l.initial.capacities l.capacities × (length l.capacities ≡ 8192)

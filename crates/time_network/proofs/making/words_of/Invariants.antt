@@ -1,6 +1,0 @@
-use Rattle.std.proofs.Common.{◌≡◌, length}
-use Rattle.time_network.specs.Making.{Priced}
-use Rattle.time_network.proofs.making.words_of.Given as goal
-
-abbrev pub invariant-loop-a : goal.invariant-loop-a
-invariant-loop-a g l = Priced (g.P.Project.meaning l.project) l.a l.words × (length l.words ≡ 8192)
