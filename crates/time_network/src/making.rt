@@ -32,16 +32,6 @@ fn rise(price: Price, low: i32) -> Capacity
     }
 }
 
-fn rise_at<P: Project>(project: &P, activity: u16, slot: u16, low: i32) -> Capacity
-    requires { (activity < (P.meaning project.now).n) × (slot < (P.meaning project.now).horizon) }
-    ensures { result ≡ rise low ((P.meaning project.now).price activity slot) }
-{
-    match project.price(activity, Slot(slot)) {
-        Some(price) => rise(price, low),
-        None => Capacity::Unbounded,
-    }
-}
-
 /// Writes the capacities of an activity.
 fn write_row<P: Project>(project: &P, activity: u16, capacities: &mut [Capacity; 8192])
     requires { activity < (P.meaning project.now).n }
@@ -52,7 +42,8 @@ fn write_row<P: Project>(project: &P, activity: u16, capacities: &mut [Capacity;
     let horizon = project.horizon();
     let base = activity as usize * horizon as usize;
     for t in 0..horizon {
-        capacities[base + t as usize] = rise_at(project, activity, t, low);
+        let price = project.price(activity, Slot(t)).unwrap();
+        capacities[base + t as usize] = rise(price, low);
     }
 }
 
@@ -66,19 +57,12 @@ fn capacities_of<P: Project>(project: &P) -> [Capacity; 8192]
     capacities
 }
 
-fn lag_of<P: Project>(project: &P, k: u16) -> Lag
-    requires { k < (P.meaning project.now).lags }
-    ensures { result ≡ (P.meaning project.now).lag k }
-{
-    project.lag(k).unwrap_or(NO_LAG)
-}
-
 fn lags_of<P: Project>(project: &P) -> [Lag; 256]
     ensures { AllCopied (P.meaning project.now) result }
 {
     let mut lags = [NO_LAG; 256];
     for k in 0..project.lag_count() {
-        lags[k as usize] = lag_of(project, k);
+        lags[k as usize] = project.lag(k).unwrap();
     }
     lags
 }

@@ -1,4 +1,4 @@
-use Rattle.std.proofs.Common.{refl, ◌∙◌, arith}
+use Rattle.std.proofs.Common.{refl, ◌∙◌, arith, rules}
 use Rattle.std.proofs.lemmas.List.{length-set}
 use Rattle.time_network.proofs.Fills.{copied_none, copied_more}
 use Rattle.time_network.proofs.making.lags_of.Goals as goal
@@ -11,7 +11,7 @@ loop-k-preserved g c =
     let m = g.P.Project.meaning c.args.project.now in
     let b = g.P.Project.bounded c.args.project.now in
     let e = c.lag_count-k-end.ensures in (
-      copied_more m c.loop-k.k c.loop-k.lags c.lag_of.result c.loop-k.invariant.0 (omega (arith, b.lags_ok, c.loop-k.invariant.1))
-          c.lag_of.ensures,
-      length-set c.loop-k.lags c.loop-k.k c.lag_of.result ∙ c.loop-k.invariant.1,
+      copied_more m c.loop-k.k c.loop-k.lags c.unwrap.result c.loop-k.invariant.0 (omega (arith, b.lags_ok, c.loop-k.invariant.1))
+          (search rules),
+      length-set c.loop-k.lags c.loop-k.k c.unwrap.result ∙ c.loop-k.invariant.1,
     )

@@ -21,8 +21,8 @@ loop-t-preserved g c =
     let m = g.P.Project.meaning c.args.project.now in
     let place : ℕ = c.args.activity * c.horizon-horizon.result + c.loop-t.t in
     let inside : place < 8192 = bounds-capacities-base g c in (
-      row_more m c.args.activity c.loop-t.t c.args.capacities.now c.loop-t.capacities place c.rise_at.result
+      row_more m c.args.activity c.loop-t.t c.args.capacities.now c.loop-t.capacities place c.rise.result
           c.loop-t.invariant.0 (ap (λ (x : ℕ). c.args.activity * x + c.loop-t.t) c.horizon-horizon.ensures)
           (omega (arith, c.loop-t.invariant.1)) (search rules),
-      length-set c.loop-t.capacities place c.rise_at.result ∙ c.loop-t.invariant.1,
+      length-set c.loop-t.capacities place c.rise.result ∙ c.loop-t.invariant.1,
     )
