@@ -35,6 +35,7 @@ impl TimeNetwork {
         ensures { result ≡ lists.next_cut (meant self.now) side from }
     {
         let places = self.lag_count * 128;
+        // From within a row of 128 on, and then row by row: no range goes like this.
         let mut at = from;
         while at < places {
             if at % 128 < self.cut_arcs(side, at / 128) {
@@ -129,6 +130,7 @@ impl TimeNetwork {
         ensures there { result < self.now.lag_count
             → lists.ends (meant self.now) at.activity result ≡ true }
     {
+        // The list runs through the index: each lag tells the next, so there is no range to go over.
         let mut k = from;
         while k < self.lag_count {
             if self.lands(at, k) {

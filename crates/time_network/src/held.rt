@@ -9,6 +9,7 @@ use model::lag::Lag;
 
 /// The time network of a project. Only the first `lag_count` lags count, and of the capacities the first
 /// `activities · horizon`, one for each price arc.
+// Arrays of the greatest size with the counts beside them: a plan allocates nothing.
 #[derive(Clone, Copy)]
 pub struct TimeNetwork {
     pub(crate) activities: usize,

@@ -11,6 +11,7 @@ pub enum End {
 
 /// For one end: the first lag with each activity there, and after each lag the next with the same activity
 /// there. The count of lags stands for none.
+// A number for none, and no `Option`, so that the cursor after the last lag is worked out like any other.
 #[derive(Clone, Copy)]
 pub struct Index {
     /// By activity.
