@@ -12,9 +12,6 @@ pub trait Project {
     /// All answers together.
     ghost meaning: { Self → Meaning };
 
-    /// The answers lie within the limits of a project.
-    ghost bounded: { (x : Self) → Bounds (meaning x) };
-
     /// How many activities there are, 1 to 64; they are numbered from 0.
     fn count(&self) -> u16
         ensures { result ≡ (meaning self.now).n };
@@ -42,4 +39,7 @@ pub trait Project {
     /// How many layers lie below, 0 to 255: 0 on nothing.
     fn height(&self) -> u8
         ensures { result ≡ (meaning self.now).height };
+
+    /// The answers lie within the limits of a project.
+    ghost bounded: { (x : Self) → Bounds (meaning x) };
 }

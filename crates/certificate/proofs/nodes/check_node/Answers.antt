@@ -37,5 +37,5 @@ pub overflow_add-inner : goal.overflow_add-inner
 overflow_add-inner g c =
     let m = g.P.Project.meaning c.args.project.now in
     record {
-      fits = omega (arith, nodes_low m (g.P.Project.bounded c.args.project.now), c.requires.placed);
+      fits = omega (arith, nodes_low m (g.met.P.Project.bounded c.args.project.now), c.requires.placed);
     }

@@ -10,8 +10,8 @@ returns-then-lag-activity g c =
     let m = g.P.Project.meaning c.args.project.now in
     let to = ap (λ (l : Lag). l.to) c.lag_at-lag.ensures in
     let gap = ap (λ (l : Lag). l.gap) c.lag_at-lag.ensures in
-    let ok = (g.P.Project.bounded c.args.project.now).lag_ok c.args.number c.requires.known in
-    let high = (g.P.Project.bounded c.args.project.now).h_high in
+    let ok = (g.met.P.Project.bounded c.args.project.now).lag_ok c.args.number c.requires.known in
+    let high = (g.met.P.Project.bounded c.args.project.now).h_high in
     record {
       value = sym
           (lag_in_none m c.args.flow.now c.args.activity c.args.slot c.args.number
@@ -30,8 +30,8 @@ returns g c =
     let m = g.P.Project.meaning c.args.project.now in
     let to = ap (λ (l : Lag). l.to) c.lag_at-lag.ensures in
     let gap = ap (λ (l : Lag). l.gap) c.lag_at-lag.ensures in
-    let ok = (g.P.Project.bounded c.args.project.now).lag_ok c.args.number c.requires.known in
-    let high = (g.P.Project.bounded c.args.project.now).h_high in
+    let ok = (g.met.P.Project.bounded c.args.project.now).lag_ok c.args.number c.requires.known in
+    let high = (g.met.P.Project.bounded c.args.project.now).h_high in
     let s : ℕ = nat_abs (to_z w32 (of_z w32 (to_z w32 c.args.slot -ℤ to_z w32 (of_z w32 (to_z w16 (of_z w16 c.lag_at-lag.result.gap)))))) in
     let below : s < m.horizon = omega (arith, ints) in
     let here : pos s +ℤ (m.lag c.args.number).gap ≡ pos c.args.slot = omega (arith, ints) in

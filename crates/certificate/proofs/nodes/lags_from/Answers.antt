@@ -5,7 +5,7 @@ use Rattle.certificate.specs.Sums.{lag_out}
 use Rattle.certificate.proofs.nodes.lags_from.Goals as goal
 
 pub overflow_add-sum : goal.overflow_add-sum
-overflow_add-sum g c = record { fits = omega (arith, (g.P.Project.bounded c.args.project.now).lags_ok) }
+overflow_add-sum g c = record { fits = omega (arith, (g.met.P.Project.bounded c.args.project.now).lags_ok) }
 
 pub loop-k-preserved : goal.loop-k-preserved
 loop-k-preserved g c =
@@ -16,7 +16,7 @@ loop-k-preserved g c =
 pub returns : goal.returns
 returns g c =
     let m = g.P.Project.meaning c.args.project.now in
-    let lags = (g.P.Project.bounded c.args.project.now).lags_ok in
+    let lags = (g.met.P.Project.bounded c.args.project.now).lags_ok in
     record {
       value =
           c.loop-k.invariant.0

@@ -7,7 +7,7 @@ use Rattle.certificate.proofs.value.check_value.Goals as goal
 pub returns-then-source_out-accounted : goal.returns-then-source_out-accounted
 returns-then-source_out-accounted g c =
     let m = g.P.Project.meaning c.args.project.now in
-    let some = (g.P.Project.bounded c.args.project.now).h_low in
+    let some = (g.met.P.Project.bounded c.args.project.now).h_low in
     let out = c.source_out.ensures ∙ sym (outflow_source m c.args.flow.now (omega arith)) in
     passes _
     (value_clear m c.args.starts.now c.args.flow.now c.requires.meeting c.source_out.result
@@ -17,7 +17,7 @@ returns-then-source_out-accounted g c =
 pub returns-else-source_out-accounted : goal.returns-else-source_out-accounted
 returns-else-source_out-accounted g c =
     let m = g.P.Project.meaning c.args.project.now in
-    let some = (g.P.Project.bounded c.args.project.now).h_low in
+    let some = (g.met.P.Project.bounded c.args.project.now).h_low in
     let out = c.source_out.ensures ∙ sym (outflow_source m c.args.flow.now (omega arith)) in
     ap Err c.at.ensures
     ∙ fails _ _

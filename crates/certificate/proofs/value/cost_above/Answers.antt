@@ -5,7 +5,7 @@ use Rattle.certificate.specs.Sums.{above_floors}
 use Rattle.certificate.proofs.value.cost_above.Goals as goal
 
 pub overflow_add-sum : goal.overflow_add-sum
-overflow_add-sum g c = record { fits = omega (arith, (g.P.Project.bounded c.args.project.now).n_high) }
+overflow_add-sum g c = record { fits = omega (arith, (g.met.P.Project.bounded c.args.project.now).n_high) }
 
 pub loop-a-preserved : goal.loop-a-preserved
 loop-a-preserved g c =
@@ -16,7 +16,7 @@ loop-a-preserved g c =
 pub returns : goal.returns
 returns g c =
     let m = g.P.Project.meaning c.args.project.now in
-    let few = (g.P.Project.bounded c.args.project.now).n_high in
+    let few = (g.met.P.Project.bounded c.args.project.now).n_high in
     record {
       value =
           c.loop-a.invariant.0

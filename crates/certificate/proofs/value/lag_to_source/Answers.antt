@@ -5,7 +5,7 @@ use Rattle.certificate.specs.Sums.{word_to_source}
 use Rattle.certificate.proofs.value.lag_to_source.Goals as goal
 
 pub overflow_add-sum : goal.overflow_add-sum
-overflow_add-sum g c = record { fits = omega (arith, (g.P.Project.bounded c.args.project.now).h_high) }
+overflow_add-sum g c = record { fits = omega (arith, (g.met.P.Project.bounded c.args.project.now).h_high) }
 
 pub loop-t-preserved : goal.loop-t-preserved
 loop-t-preserved g c =
@@ -16,7 +16,7 @@ loop-t-preserved g c =
 pub returns : goal.returns
 returns g c =
     let m = g.P.Project.meaning c.args.project.now in
-    let few = (g.P.Project.bounded c.args.project.now).h_high in
+    let few = (g.met.P.Project.bounded c.args.project.now).h_high in
     record {
       value =
           c.loop-t.invariant.0

@@ -8,9 +8,9 @@ returns g c =
     let m = g.P.Project.meaning c.args.project.now in
     let f = c.args.flow.now in
     let back = ap (λ (n : ℕ). first_words f m.horizon n n) c.count-activities.ensures in
-    let few = (g.P.Project.bounded c.args.project.now).n_high in
+    let few = (g.met.P.Project.bounded c.args.project.now).n_high in
     record {
       value =
-          omega arith ∙ sym (inflow_source m f (omega (arith, (g.P.Project.bounded c.args.project.now).h_low)));
+          omega arith ∙ sym (inflow_source m f (omega (arith, (g.met.P.Project.bounded c.args.project.now).h_low)));
       low = omega arith;
     }

@@ -7,4 +7,4 @@ returns g c =
     let m = g.P.Project.meaning c.args.project.now in
     let all = arcs_same m c.count.result c.horizon.result c.lag_count.result c.count.ensures
     c.horizon.ensures c.lag_count.ensures in
-    record { value = all; low = omega (arith, arcs_low m (g.P.Project.bounded c.args.project.now)) }
+    record { value = all; low = omega (arith, arcs_low m (g.met.P.Project.bounded c.args.project.now)) }

@@ -14,7 +14,7 @@ loop-a-preserved g c =
     let a = c.loop-a.a in
     let same : floor m a ≡ to_z w32 (of_z w32 c.floor_of.result) =
     sym (to_z-of_z w32 c.floor_of.result (record { sfits = c.floor_of.type_inv }) ∙ c.floor_of.ensures) in
-    let in_room : a < length low = omega (arith, (g.P.Project.bounded c.args.project.now).n_high) in
+    let in_room : a < length low = omega (arith, (g.met.P.Project.bounded c.args.project.now).n_high) in
     subst
     (λ (z : ℤ).
     (length (set low a z) ≡ 64)
@@ -25,6 +25,6 @@ loop-a-preserved g c =
 pub returns : goal.returns
 returns g c =
     record {
-      room = omega (arith, (g.P.Project.bounded c.args.project.now).n_high);
+      room = omega (arith, (g.met.P.Project.bounded c.args.project.now).n_high);
       each_floor = λ a l. c.loop-a.invariant.1 a (omega arith);
     }

@@ -6,7 +6,7 @@ use Rattle.earliest.proofs.earliest.earliest.Goals as goal
 
 pub overflow_cast-words : goal.overflow_cast-words
 overflow_cast-words g c =
-    let fit = words_fit (g.P.Project.meaning c.args.project.now) (g.P.Project.bounded c.args.project.now) in
+    let fit = words_fit (g.P.Project.meaning c.args.project.now) (g.met.P.Project.bounded c.args.project.now) in
     search rules
 
 pub returns : goal.returns

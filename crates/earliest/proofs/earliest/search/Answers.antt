@@ -10,7 +10,7 @@ use Rattle.earliest.proofs.earliest.search.Goals as goal
 
 pub push-requires : goal.push-requires
 push-requires g c =
-    fresh_memory (g.P.Project.meaning c.args.project.now) c.begin.new.words _ (g.P.Project.bounded c.args.project.now) (omega arith) c.begin.ensures refl
+    fresh_memory (g.P.Project.meaning c.args.project.now) c.begin.new.words _ (g.met.P.Project.bounded c.args.project.now) (omega arith) c.begin.ensures refl
 
 pub returns-in-Some : goal.returns-in-Some
 returns-in-Some g c =
@@ -22,7 +22,7 @@ pub write_starts-requires : goal.write_starts-requires
 write_starts-requires g c =
     let m = g.P.Project.meaning c.args.project.now in
     record {
-      ready = ready m c.push.new.words c.push.new.latest c.push.ensures.count c.push.ensures.state (omega arith) (omega (arith, (g.P.Project.bounded c.args.project.now).n_high));
+      ready = ready m c.push.new.words c.push.new.latest c.push.ensures.count c.push.ensures.state (omega arith) (omega (arith, (g.met.P.Project.bounded c.args.project.now).n_high));
       project_in_bounds = c.requires.starts;
     }
 
@@ -33,4 +33,4 @@ returns-in-None g c =
     let la = latest_of c.push.new.latest in
     let p = c.in-None.ensures in
     told_found m (bounds m nd la) c.args.starts.now c.write_starts.new.starts c.args.chain.now
-    (quiet_earliest m nd la p.count (g.P.Project.bounded c.args.project.now) p.state p.ended) c.write_starts.ensures
+    (quiet_earliest m nd la p.count (g.met.P.Project.bounded c.args.project.now) p.state p.ended) c.write_starts.ensures

@@ -15,7 +15,7 @@ closed_step-requires g c = record {
 pub overflow_add-count : goal.overflow_add-count
 overflow_add-count g c =
     let m = g.P.Project.meaning c.args.project.now in
-    let f = few_fit m (node_of c.loop-activity.words) (latest_of c.loop-activity.latest) c.loop-activity.count (g.P.Project.bounded c.args.project.now) c.loop-activity.invariant.0 in
+    let f = few_fit m (node_of c.loop-activity.words) (latest_of c.loop-activity.latest) c.loop-activity.count (g.met.P.Project.bounded c.args.project.now) c.loop-activity.invariant.0 in
     search rules
 
 pub keep-requires : goal.keep-requires
@@ -62,7 +62,7 @@ lag_step-requires g c = record {
 pub overflow_add-count-in-Some-lag_step : goal.overflow_add-count-in-Some-lag_step
 overflow_add-count-in-Some-lag_step g c =
     let m = g.P.Project.meaning c.args.project.now in
-    let f = few_fit m (node_of c.loop-number.words) (latest_of c.loop-number.latest) c.loop-number.count (g.P.Project.bounded c.args.project.now) c.loop-number.invariant.0 in
+    let f = few_fit m (node_of c.loop-number.words) (latest_of c.loop-number.latest) c.loop-number.count (g.met.P.Project.bounded c.args.project.now) c.loop-number.invariant.0 in
     search rules
 
 pub keep-requires-in-Some-lag_step : goal.keep-requires-in-Some-lag_step
@@ -71,7 +71,7 @@ keep-requires-in-Some-lag_step g c =
     let nd = node_of c.loop-number.words in
     let la = latest_of c.loop-number.latest in
     let lt : c.loop-number.number < m.lags = omega (arith, c.loop-number-test.true, c.lag_count-number-end.ensures) in
-    let p = lag_pushes m nd la c.loop-number.number c.in-Some-lag_step.node (g.P.Project.bounded c.args.project.now) lt (sym c.in-Some-lag_step.ensures) in
+    let p = lag_pushes m nd la c.loop-number.number c.in-Some-lag_step.node (g.met.P.Project.bounded c.args.project.now) lt (sym c.in-Some-lag_step.ensures) in
     (room_left m nd la c.loop-number.count _ c.loop-number.invariant.0 (omega arith), omega (arith, p.real))
 
 pub loop-number-preserved : goal.loop-number-preserved
@@ -84,7 +84,7 @@ loop-number-preserved g c =
     let lt : i < m.lags = omega (arith, c.loop-number-test.true, c.lag_count-number-end.ensures) in
     elim c.match-lag_step.branch [
       | in-Some-lag_step+else-node-horizon-2 w ↦
-          (let p = lag_pushes m (node_of xs) (latest_of ls) i w.in-Some-lag_step.node (g.P.Project.bounded c.args.project.now) lt (sym w.in-Some-lag_step.ensures) in (
+          (let p = lag_pushes m (node_of xs) (latest_of ls) i w.in-Some-lag_step.node (g.met.P.Project.bounded c.args.project.now) lt (sym w.in-Some-lag_step.ensures) in (
             kept m xs c.match-lag_step.words w.keep-in-Some-lag_step.new.words ls c.match-lag_step.latest c.loop-number.count c.match-lag_step.count w.in-Some-lag_step.node
                 s p (omega (arith, p.within, w.if-node-horizon-2.false, w.horizon-in-Some-lag_step.ensures)) (omega arith) w.keep-in-Some-lag_step.ensures.written w.words-is (w.latest-is ∙ w.keep-in-Some-lag_step.ensures.newest) w.count-is,
             omega (arith, c.loop-number.invariant.1, w.count-is),

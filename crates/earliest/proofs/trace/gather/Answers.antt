@@ -6,7 +6,7 @@ use Rattle.earliest.proofs.trace.gather.Goals as goal
 pub loop-node-init : goal.loop-node-init
 loop-node-init g c =
     let m = g.P.Project.meaning c.args.project.now in
-    walk_start m c.args.words.now c.args.last c.args.chain.now (g.P.Project.bounded c.args.project.now) c.requires.driven (omega (arith, c.requires.project_bound))
+    walk_start m c.args.words.now c.args.last c.args.chain.now (g.met.P.Project.bounded c.args.project.now) c.requires.driven (omega (arith, c.requires.project_bound))
 
 pub node_at-node-requires : goal.node_at-node-requires
 node_at-node-requires g c =
@@ -16,7 +16,7 @@ node_at-node-requires g c =
 pub offset_bounds-chain-length : goal.offset_bounds-chain-length
 offset_bounds-chain-length g c =
     let m = g.P.Project.meaning c.args.project.now in
-    let b = g.P.Project.bounded c.args.project.now in
+    let b = g.met.P.Project.bounded c.args.project.now in
     let room = walk_room m c.args.words.now (set c.args.chain.now 0 c.args.last.entry) c.loop-node.chain c.loop-node.length c.loop-node.node b c.loop-node.invariant in
     let fit = entries_fit m b in
     let small : c.loop-node.length + 1 ≤ 8193 = omega (arith, room, fit) in
@@ -25,14 +25,14 @@ offset_bounds-chain-length g c =
 pub bounds-chain-length : goal.bounds-chain-length
 bounds-chain-length g c =
     let m = g.P.Project.meaning c.args.project.now in
-    let b = g.P.Project.bounded c.args.project.now in
+    let b = g.met.P.Project.bounded c.args.project.now in
     let room = walk_room m c.args.words.now (set c.args.chain.now 0 c.args.last.entry) c.loop-node.chain c.loop-node.length c.loop-node.node b c.loop-node.invariant in
     omega (arith, room, c.requires.project_bound, c.loop-node.auto.chain, length-set c.args.chain.now 0 c.args.last.entry)
 
 pub overflow_add-length : goal.overflow_add-length
 overflow_add-length g c =
     let m = g.P.Project.meaning c.args.project.now in
-    let b = g.P.Project.bounded c.args.project.now in
+    let b = g.met.P.Project.bounded c.args.project.now in
     let room = walk_room m c.args.words.now (set c.args.chain.now 0 c.args.last.entry) c.loop-node.chain c.loop-node.length c.loop-node.node b c.loop-node.invariant in
     let fit = entries_fit m b in
     let small : c.loop-node.length + 1 ≤ 8193 = omega (arith, room, fit) in
@@ -41,7 +41,7 @@ overflow_add-length g c =
 pub offset_bounds-chain-length-2 : goal.offset_bounds-chain-length-2
 offset_bounds-chain-length-2 g c =
     let m = g.P.Project.meaning c.args.project.now in
-    let b = g.P.Project.bounded c.args.project.now in
+    let b = g.met.P.Project.bounded c.args.project.now in
     let room = walk_room m c.args.words.now (set c.args.chain.now 0 c.args.last.entry) c.loop-node.chain c.loop-node.length c.loop-node.node b c.loop-node.invariant in
     let fit = entries_fit m b in
     let small : c.loop-node.length + 1 ≤ 8193 = omega (arith, room, fit) in
@@ -50,14 +50,14 @@ offset_bounds-chain-length-2 g c =
 pub bounds-chain-length-2 : goal.bounds-chain-length-2
 bounds-chain-length-2 g c =
     let m = g.P.Project.meaning c.args.project.now in
-    let b = g.P.Project.bounded c.args.project.now in
+    let b = g.met.P.Project.bounded c.args.project.now in
     let room = walk_room m c.args.words.now (set c.args.chain.now 0 c.args.last.entry) c.loop-node.chain c.loop-node.length c.loop-node.node b c.loop-node.invariant in
     omega (arith, room, c.requires.project_bound, c.loop-node.auto.chain, length-set c.args.chain.now 0 c.args.last.entry)
 
 pub overflow_add-result : goal.overflow_add-result
 overflow_add-result g c =
     let m = g.P.Project.meaning c.args.project.now in
-    let b = g.P.Project.bounded c.args.project.now in
+    let b = g.met.P.Project.bounded c.args.project.now in
     let room = walk_room m c.args.words.now (set c.args.chain.now 0 c.args.last.entry) c.loop-node.chain c.loop-node.length c.loop-node.node b c.loop-node.invariant in
     let fit = entries_fit m b in
     let small : c.loop-node.length + 1 ≤ 8193 = omega (arith, room, fit) in
@@ -72,7 +72,7 @@ loop-node-smaller g c =
 pub loop-node-preserved : goal.loop-node-preserved
 loop-node-preserved g c =
     let m = g.P.Project.meaning c.args.project.now in
-    let b = g.P.Project.bounded c.args.project.now in
+    let b = g.met.P.Project.bounded c.args.project.now in
     let room = walk_room m c.args.words.now (set c.args.chain.now 0 c.args.last.entry) c.loop-node.chain c.loop-node.length c.loop-node.node b c.loop-node.invariant in
     let lt : c.loop-node.length < length c.loop-node.chain = omega (arith, room, c.requires.project_bound, c.loop-node.auto.chain, length-set c.args.chain.now 0 c.args.last.entry) in
     walk_more m c.args.words.now (set c.args.chain.now 0 c.args.last.entry) c.loop-node.chain c.loop-node.length c.loop-node.node c.node_at-node.result lt c.loop-node.invariant (omega (arith, c.loop-node-test.true)) c.node_at-node.ensures
@@ -80,7 +80,7 @@ loop-node-preserved g c =
 pub returns : goal.returns
 returns g c =
     let m = g.P.Project.meaning c.args.project.now in
-    let b = g.P.Project.bounded c.args.project.now in
+    let b = g.met.P.Project.bounded c.args.project.now in
     let room = walk_room m c.args.words.now (set c.args.chain.now 0 c.args.last.entry) c.loop-node.chain c.loop-node.length c.loop-node.node b c.loop-node.invariant in
     let lt : c.loop-node.length < length c.loop-node.chain = omega (arith, room, c.requires.project_bound, c.loop-node.auto.chain, length-set c.args.chain.now 0 c.args.last.entry) in
     gathered_on m c.args.chain.now _ c.args.last.entry (c.loop-node.length + 1) (omega arith)

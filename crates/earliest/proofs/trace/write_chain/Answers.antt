@@ -4,7 +4,7 @@ use Rattle.earliest.proofs.trace.write_chain.Goals as goal
 
 pub overflow_cast-result : goal.overflow_cast-result
 overflow_cast-result g c =
-    let fit = entries_fit (g.P.Project.meaning c.args.project.now) (g.P.Project.bounded c.args.project.now) in
+    let fit = entries_fit (g.P.Project.meaning c.args.project.now) (g.met.P.Project.bounded c.args.project.now) in
     search rules
 
 pub returns : goal.returns

@@ -7,4 +7,4 @@ pub returns : goal.returns
 returns g c =
     let n = g.N.Network.net c.args.network.now in
     subst (Looked n c.args.k) (sym c.arc.ensures)
-    (looked n (g.N.Network.bounded c.args.network.now) c.args.k)
+    (looked n (g.met.N.Network.bounded c.args.network.now) c.args.k)

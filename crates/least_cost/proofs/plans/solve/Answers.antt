@@ -7,7 +7,7 @@ use Rattle.least_cost.proofs.plans.solve.Goals as goal
 pub returns-in_err-value : goal.returns-in_err-value
 returns-in_err-value g c =
     let m = g.P.Project.meaning c.args.project.now in
-    let b = g.P.Project.bounded c.args.project.now in
+    let b = g.met.P.Project.bounded c.args.project.now in
     let n = net_of c.of-network.result in
     let side = c.args.side in
     let answer = c.in_err-value.ensures.enough (enough_flow side m n (length c.args.flow.now) c.of-network.ensures c.requires.flow_enough) (enough_nodes side m n (length c.args.nodes.now) c.of-network.ensures c.requires.nodes_enough) in
@@ -18,7 +18,7 @@ returns-in_err-value g c =
 pub returns : goal.returns
 returns g c =
     let m = g.P.Project.meaning c.args.project.now in
-    let b = g.P.Project.bounded c.args.project.now in
+    let b = g.met.P.Project.bounded c.args.project.now in
     let n = net_of c.of-network.result in
     let side = c.args.side in
     let answer = c.in_ok-value.ensures.enough (enough_flow side m n (length c.args.flow.now) c.of-network.ensures c.requires.flow_enough) (enough_nodes side m n (length c.args.nodes.now) c.of-network.ensures c.requires.nodes_enough) in

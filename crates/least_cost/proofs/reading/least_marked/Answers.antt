@@ -8,7 +8,7 @@ use Rattle.least_cost.proofs.reading.least_marked.Goals as goal
 pub returns-then-is_marked : goal.returns-then-is_marked
 returns-then-is_marked g c =
     let m = g.P.Project.meaning c.args.project.now in
-    let b = g.P.Project.bounded c.args.project.now in
+    let b = g.met.P.Project.bounded c.args.project.now in
     let f : ℕ → Bool = λ t. marked c.args.nodes.now (other (point m.horizon c.args.activity t)) in
     let here : f c.loop-t.t ≡ true = sym (ap (marked c.args.nodes.now) (c.renamed_node.ensures ∙ ap other c.point.ensures.node)) ∙ sym c.is_marked.ensures ∙ c.if-is_marked.true in
     let less : c.loop-t.t < m.horizon = omega (arith, c.horizon-horizon.ensures) in

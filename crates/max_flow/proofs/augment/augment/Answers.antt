@@ -6,7 +6,7 @@ use Rattle.max_flow.proofs.augment.augment.Goals as goal
 pub push-stop-requires : goal.push-stop-requires
 push-stop-requires g c =
     let x = c.args.network.now in
-    let low = value_limit (g.N.Network.net x) (g.N.Network.bounded x) c.requires.finite
+    let low = value_limit (g.N.Network.net x) (g.met.N.Network.bounded x) c.requires.finite
     (word c.args.flow.now) c.args.value c.requires.flow in
     record {
       flows = c.requires.flows;
@@ -20,6 +20,6 @@ push-stop-requires g c =
 pub overflow_add-result : goal.overflow_add-result
 overflow_add-result g c =
     let x = c.args.network.now in
-    let low = value_limit (g.N.Network.net x) (g.N.Network.bounded x) c.requires.finite
+    let low = value_limit (g.N.Network.net x) (g.met.N.Network.bounded x) c.requires.finite
     (word c.args.flow.now) c.args.value c.requires.flow in
     omega (arith, low, c.narrowest-amount.ensures.most)

@@ -12,7 +12,7 @@ loop-node-init g c =
     let ws = c.args.nodes.now in
     subst (λ (m : ℕ). Laying n (word c.args.flow.now) (rank_in ws) (link_in n.nodes ws) 1
     (get_or ws (m + 1) 0)) (sym c.node_count-count.ensures)
-    (laying_begins n (g.N.Network.bounded x).sound (word c.args.flow.now) (rank_in ws)
+    (laying_begins n (g.met.N.Network.bounded x).sound (word c.args.flow.now) (rank_in ws)
     (link_in n.nodes ws) c.requires.found c.requires.sink)
 
 pub loop-node-preserved : goal.loop-node-preserved

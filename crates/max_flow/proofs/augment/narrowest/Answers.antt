@@ -7,7 +7,7 @@ use Rattle.max_flow.proofs.Walks.{link_exists, narrow_over_in, narrow_against_in
 use Rattle.max_flow.proofs.augment.narrowest.Goals as goal
 
 pub loop-node-init : goal.loop-node-init
-loop-node-init g c = narrow_begins _ (g.N.Network.bounded c.args.network.now) _ _ _ c.requires.way
+loop-node-init g c = narrow_begins _ (g.met.N.Network.bounded c.args.network.now) _ _ _ c.requires.way
 
 pub unreachable-requires : goal.unreachable-requires
 unreachable-requires g c =

@@ -7,7 +7,7 @@ use Rattle.max_flow.proofs.augment.push.Goals as goal
 
 pub loop-node-init : goal.loop-node-init
 loop-node-init g c =
-    pushing_begins _ (g.N.Network.bounded c.args.network.now) _ _ c.args.value c.args.amount
+    pushing_begins _ (g.met.N.Network.bounded c.args.network.now) _ _ c.args.value c.args.amount
     c.args.flow.now c.requires.way c.requires.flow c.requires.small
 
 pub unreachable-requires : goal.unreachable-requires
@@ -105,7 +105,7 @@ returns g c =
     let at_sink = subst (λ (v : ℕ). Pushing n (word c.args.flow.now) (rank_in ws) (link_in n.nodes ws)
     c.args.value c.args.amount c.loop-node.flow v c.loop-node.stop)
     c.loop-node-test.false c.loop-node.invariant in
-    let e = pushing_ends n (g.N.Network.bounded c.args.network.now) (word c.args.flow.now)
+    let e = pushing_ends n (g.met.N.Network.bounded c.args.network.now) (word c.args.flow.now)
     (rank_in ws) (link_in n.nodes ws) c.args.value c.args.amount
     c.loop-node.flow c.loop-node.stop at_sink in
     record { is_flow = e.0; none_above = e.1; inside = e.2; way = e.3 }

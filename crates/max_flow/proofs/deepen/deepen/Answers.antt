@@ -8,6 +8,6 @@ loop-init g c =
       is_flow = c.requires.flow;
       none_above = c.requires.small;
       more = omega arith;
-      inside = omega (arith, (g.N.Network.bounded c.args.network.now).sound.two);
+      inside = omega (arith, (g.met.N.Network.bounded c.args.network.now).sound.two);
       way = arrived;
     }

@@ -5,7 +5,7 @@ use Rattle.max_flow.proofs.engine.max_flow.Goals as goal
 pub returns-in-Some : goal.returns-in-Some
 returns-in-Some g c =
     let x = c.args.network.now in
-    outcome_some (g.N.Network.net x) (g.N.Network.bounded x) c.args.flow.now c.solve.new.flow
+    outcome_some (g.N.Network.net x) (g.met.N.Network.bounded x) c.args.flow.now c.solve.new.flow
     c.args.nodes.now c.solve.new.nodes _ _
     (omega (arith, c.arc_count-arcs.ensures)) (omega (arith, c.node_count-words.ensures))
     (omega (arith, c.arc_count-arcs.ensures)) (omega (arith, c.node_count-words.ensures))
@@ -15,7 +15,7 @@ pub returns-in-None : goal.returns-in-None
 returns-in-None g c =
     let x = c.args.network.now in
     let e = c.in-None.ensures in
-    outcome_none (g.N.Network.net x) (g.N.Network.bounded x) c.args.flow.now c.solve.new.flow
+    outcome_none (g.N.Network.net x) (g.met.N.Network.bounded x) c.args.flow.now c.solve.new.flow
     c.args.nodes.now c.solve.new.nodes _ _
     (omega (arith, c.arc_count-arcs.ensures)) (omega (arith, c.node_count-words.ensures))
     (omega (arith, c.arc_count-arcs.ensures)) (omega (arith, c.node_count-words.ensures))

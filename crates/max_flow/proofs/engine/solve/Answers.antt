@@ -11,7 +11,7 @@ returns-then-search g c =
     let n = g.N.Network.net x in
     let ws = c.search.new.nodes in
     let found = ltb-true 0 (rank_in ws 1) (sym c.if-search.ensures.sink) in (
-      unhindered_some n (g.N.Network.bounded x).sound (rank_in ws) (link_in n.nodes ws)
+      unhindered_some n (g.met.N.Network.bounded x).sound (rank_in ws) (link_in n.nodes ws)
           c.search.ensures.searched (λ e. omega arith),
       refl,
       c.clear-then-search.ensures ∙ ap (λ m. replicate m 0) (omega (arith, c.requires.four)),
@@ -35,7 +35,7 @@ returns g c =
     let n = g.N.Network.net x in
     let ws = c.search.new.nodes in
     let none = ltb-false 0 (rank_in ws 1) (sym c.if-search.ensures.sink) in
-    maximum n (g.N.Network.bounded x) c.climb-value.new.flow c.climb-value.new.nodes
+    maximum n (g.met.N.Network.bounded x) c.climb-value.new.flow c.climb-value.new.nodes
     c.mark.new.nodes c.climb-value.result c.node_count.result
     c.node_count.ensures (omega (arith, c.requires.four))
     (unhindered_none n _ (rank_in ws) (link_in n.nodes ws) c.search.ensures.searched (omega arith))

@@ -12,17 +12,17 @@ find-waiting-requires g c =
     c.loop-step.waiting c.in-Some.step.node c.loop-step.invariant s.1 c.if-nodes-step-eq0.true in
     record {
       four = omega (arith, c.loop-step.invariant.four, c.node_count-count.ensures);
-      small = omega (arith, (g.N.Network.bounded x).nodes_limit, c.node_count-count.ensures);
+      small = omega (arith, (g.met.N.Network.bounded x).nodes_limit, c.node_count-count.ensures);
       inside = omega (arith, s.1, c.node_count-count.ensures);
       space = omega (arith, space, c.node_count-count.ensures);
-      arc = omega (arith, s.0.exists, (g.N.Network.bounded x).arcs_limit);
+      arc = omega (arith, s.0.exists, (g.met.N.Network.bounded x).arcs_limit);
     }
 
 pub loop-step-preserved-then-room_on : goal.loop-step-preserved-then-room_on
 loop-step-preserved-then-room_on g c =
     let x = c.args.network.now in
     let s = c.in-Some.ensures in
-    grown_find (g.N.Network.net x) (g.N.Network.bounded x) (word c.args.flow.now) c.args.nodes.now
+    grown_find (g.N.Network.net x) (g.met.N.Network.bounded x) (word c.args.flow.now) c.args.nodes.now
     c.loop-step.nodes
     c.args.waiting c.loop-step.waiting c.args.node c.in-Some.step.node c.in-Some.step.arc
     c.loop-step.invariant c.requires.inside

@@ -12,17 +12,17 @@ find-waiting-requires g c =
     c.loop-cursor.waiting c.in-Some.step.node c.loop-cursor.invariant s.1 c.if-nodes-step-eq0.true in
     record {
       four = omega (arith, c.loop-cursor.invariant.four, c.node_count-count.ensures);
-      small = omega (arith, (g.N.Network.bounded x).nodes_limit, c.node_count-count.ensures);
+      small = omega (arith, (g.met.N.Network.bounded x).nodes_limit, c.node_count-count.ensures);
       inside = omega (arith, s.1, c.node_count-count.ensures);
       space = omega (arith, space, c.node_count-count.ensures);
-      arc = omega (arith, s.0.exists, (g.N.Network.bounded x).arcs_limit);
+      arc = omega (arith, s.0.exists, (g.met.N.Network.bounded x).arcs_limit);
     }
 
 pub loop-cursor-preserved-then-word_at-gt0 : goal.loop-cursor-preserved-then-word_at-gt0
 loop-cursor-preserved-then-word_at-gt0 g c =
     let x = c.args.network.now in
     let s = c.in-Some.ensures in
-    grown_find (g.N.Network.net x) (g.N.Network.bounded x) (word c.args.flow.now) c.args.nodes.now
+    grown_find (g.N.Network.net x) (g.met.N.Network.bounded x) (word c.args.flow.now) c.args.nodes.now
     c.loop-cursor.nodes
     c.args.waiting c.loop-cursor.waiting c.args.node c.in-Some.step.node
     c.in-Some.step.arc c.loop-cursor.invariant c.requires.inside

@@ -17,10 +17,10 @@ find-requires g c =
     c.if-to-eq0.true in
     record {
       four = omega (arith, c.requires.four, c.node_count-count.ensures);
-      small = omega (arith, (g.N.Network.bounded x).nodes_limit, c.node_count-count.ensures);
+      small = omega (arith, (g.met.N.Network.bounded x).nodes_limit, c.node_count-count.ensures);
       inside = omega (arith, s.head_in, c.node_count-count.ensures);
       space = omega (arith, space, c.node_count-count.ensures);
-      arc = omega (arith, s.exists, (g.N.Network.bounded x).arcs_limit);
+      arc = omega (arith, s.exists, (g.met.N.Network.bounded x).arcs_limit);
     }
 
 pub find-requires-then-word_at-gt0 : goal.find-requires-then-word_at-gt0
@@ -35,10 +35,10 @@ find-requires-then-word_at-gt0 g c =
     c.if-from-eq0.true in
     record {
       four = omega (arith, c.requires.four, c.node_count-count.ensures);
-      small = omega (arith, (g.N.Network.bounded x).nodes_limit, c.node_count-count.ensures);
+      small = omega (arith, (g.met.N.Network.bounded x).nodes_limit, c.node_count-count.ensures);
       inside = omega (arith, s.tail_in, c.node_count-count.ensures);
       space = omega (arith, space, c.node_count-count.ensures);
-      arc = omega (arith, s.exists, (g.N.Network.bounded x).arcs_limit);
+      arc = omega (arith, s.exists, (g.met.N.Network.bounded x).arcs_limit);
     }
 
 pub returns-then-has_room : goal.returns-then-has_room
@@ -54,7 +54,7 @@ returns-then-has_room g c =
     ∙ (ap (has_room a.capacity) (sym c.word_at.ensures) ∙ sym c.if-has_room.ensures)) in
     record {
       grown =
-          grown_find n (g.N.Network.bounded x) f ws ws c.args.waiting c.args.waiting a.tail a.head k
+          grown_find n (g.met.N.Network.bounded x) f ws ws c.args.waiting c.args.waiting a.tail a.head k
           (grown_none n f ws c.args.waiting c.requires.four c.requires.searching) s.tail_in
           c.if-arc-ne1.true c.if-from-gt0.true
           s.head_in c.if-to-eq0.true (s.exists, inl (open_arc, sym s.tail_is, sym s.head_is))
@@ -79,7 +79,7 @@ returns-then-word_at-gt0 g c =
     let ws = c.args.nodes.now in
     record {
       grown =
-          grown_find n (g.N.Network.bounded x) f ws ws c.args.waiting c.args.waiting a.head a.tail k
+          grown_find n (g.met.N.Network.bounded x) f ws ws c.args.waiting c.args.waiting a.head a.tail k
           (grown_none n f ws c.args.waiting c.requires.four c.requires.searching) s.head_in
           c.if-arc-ne1-2.true c.if-to-gt0.true
           s.tail_in c.if-from-eq0.true (s.exists, inr (omega arith, sym s.head_is, sym s.tail_is))

@@ -11,7 +11,7 @@ loop-nodes-init g c =
     let n = g.N.Network.net x in
     let ws = c.begin.new.nodes in
     let b = subst (λ (m : ℕ). Begun m ws) c.node_count.ensures c.begin.ensures in (
-      search_begins n (g.N.Network.bounded x).sound (word c.args.flow.now) (rank_in ws)
+      search_begins n (g.met.N.Network.bounded x).sound (word c.args.flow.now) (rank_in ws)
           (link_in n.nodes ws) (queue_in n.nodes ws)
           b.first b.none b.waits,
       omega arith,

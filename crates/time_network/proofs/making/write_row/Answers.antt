@@ -7,7 +7,7 @@ use Rattle.time_network.proofs.making.write_row.Goals as goal
 pub bounds-capacities-base : goal.bounds-capacities-base
 bounds-capacities-base g c =
     let m = g.P.Project.meaning c.args.project.now in
-    let b = g.P.Project.bounded c.args.project.now in
+    let b = g.met.P.Project.bounded c.args.project.now in
     let e = c.horizon-horizon.ensures in
     let x = mul-add-lt c.args.activity c.horizon-horizon.result c.loop-t.t m.n c.requires c.loop-t-test.true in
     let y = mul-le c.horizon-horizon.result m.n 128 64 (omega (arith, b.h_high)) b.n_high in

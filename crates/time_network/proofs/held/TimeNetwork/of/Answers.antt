@@ -5,7 +5,7 @@ use Rattle.time_network.proofs.held.TimeNetwork.of.Goals as goal
 pub invariant_of-result : goal.invariant_of-result
 invariant_of-result g c =
     let m = g.P.Project.meaning c.args.project.now in
-    let b = g.P.Project.bounded c.args.project.now in
+    let b = g.met.P.Project.bounded c.args.project.now in
     let n = c.count-activities.ensures in
     let h = c.horizon-horizon.ensures in
     let k = c.lag_count-lag_count.ensures in
@@ -25,6 +25,6 @@ invariant_of-result g c =
 pub returns : goal.returns
 returns g c =
     let x = c.args.project.now in
-    same_made (g.P.Project.meaning x) (g.P.Project.bounded x) c.lags_of-lags.result c.capacities_of-capacities.result
+    same_made (g.P.Project.meaning x) (g.met.P.Project.bounded x) c.lags_of-lags.result c.capacities_of-capacities.result
     c.lags_of-lags.ensures c.capacities_of-capacities.ensures c.count-activities.result c.horizon-horizon.result
     c.lag_count-lag_count.result c.count-activities.ensures c.horizon-horizon.ensures c.lag_count-lag_count.ensures
