@@ -1,5 +1,4 @@
 pub mod Refute
-pub mod Words
 pub mod Totals
 pub mod Steps
 pub mod Asked

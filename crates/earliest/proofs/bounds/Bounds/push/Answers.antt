@@ -1,0 +1,31 @@
+use Rattle.std.proofs.Common.{◌-◌, ◌*◌, ◌<◌, ◌≤◌, ap, subst, ◌∙◌, arith}
+use Rattle.earliest.specs.Nodes.{node_of}
+use Rattle.earliest.specs.Pushing.{closed_step, lag_step, latest_of}
+use Rattle.earliest.proofs.Loops.{still_none, none_more}
+use Rattle.earliest.proofs.Steps.{nodes_few}
+use Rattle.earliest.proofs.bounds.Bounds.push.Goals as goal
+
+pub loop-number-preserved : goal.loop-number-preserved
+loop-number-preserved g c =
+    let m = g.P.Project.meaning c.args.self.now.project.now in
+    let x = c.loop-number.self in
+    let y = c.take-in-loop-number.new.self in
+    let i = c.loop-number.invariant in
+    record {
+      same = c.take-in-loop-number.ensures.same_project ∙ i.same;
+      onward = omega (arith, i.onward, c.take-in-loop-number.ensures.taken.onward);
+      all_open = still_none (λ ns ls a. closed_step m (node_of ns) (latest_of ls) a) m.n c.push.self.count x.count y.count x.nodes.now y.nodes.now x.latest y.latest _ _
+          i.onward i.all_open c.take-in-loop-number.ensures.taken;
+      all_hold = none_more (λ ns ls k. lag_step m (node_of ns) (latest_of ls) k) c.loop-number.number c.push.self.count x.count y.count x.nodes.now y.nodes.now x.latest y.latest _ _
+          i.onward i.all_hold c.take-in-loop-number.ensures.taken
+          (c.lag_step-step.ensures ∙ ap (λ p. lag_step (g.P.Project.meaning p) (node_of x.nodes.now) (latest_of x.latest) c.loop-number.number) i.same) c.in_default-take.is;
+    }
+
+pub push-smaller : goal.push-smaller
+push-smaller g c =
+    let m = g.P.Project.meaning in
+    let x = c.loop-number.self in
+    let few = subst (λ p. x.count ≤ (m p).n * ((m p).horizon - 1)) c.loop-number.invariant.same (nodes_few (m x.project.now) (node_of x.nodes.now) (latest_of x.latest) x.count x.state) in
+    let less : (m c.args.self.now.project.now).n * ((m c.args.self.now.project.now).horizon - 1) - x.count < (m c.args.self.now.project.now).n * ((m c.args.self.now.project.now).horizon - 1) - c.push.self.count =
+    omega (arith, few, c.loop-number.invariant.onward, c.if-self-before.false) in
+    less
