@@ -1,7 +1,6 @@
 pub mod Refute
 pub mod Totals
 pub mod Steps
-pub mod Asked
 pub mod Loops
 pub mod Tracing
 pub mod Trails

@@ -15,10 +15,11 @@ use model::time::Slot;
 const ACTIVITIES: usize = 64;
 
 // The slot `gap` later, cut to 0 to the horizon.
-fn cut_slot(slot: u16, gap: i16, horizon: u16) -> u16
-    ensures { result ≡ cut_to horizon (pos slot +ℤ gap) }
+fn cut_slot(slot: Slot, gap: i16, horizon: u16) -> Slot
+    ensures { result.0 ≡ cut_to horizon (pos slot.0 +ℤ gap) }
 {
-    (i32::from(slot) + i32::from(gap)).clamp(0, i32::from(horizon)) as u16
+    let moved = i32::from(slot.0) + i32::from(gap);
+    Slot(moved.clamp(0, i32::from(horizon)) as u16)
 }
 
 /// The bounds of a project's activities: no list that meets the project starts an activity before
@@ -99,13 +100,13 @@ impl<'a, P: Project> Bounds<'a, P> {
         let lag = self.project.lag(number)?;
         let activity = u16::from(lag.to);
         let from = self.bound(u16::from(lag.from));
-        let slot = cut_slot(from.0, lag.gap, self.project.horizon());
-        if slot <= self.bound(activity).0 {
+        let slot = cut_slot(from, lag.gap, self.project.horizon());
+        if slot <= self.bound(activity) {
             return None;
         }
         let entry = Entry {
             activity,
-            slot: Slot(slot),
+            slot,
             how: How::ByLag(number),
         };
         let parent = self.latest[usize::from(lag.from)];
@@ -145,14 +146,12 @@ impl<'a, P: Project> Bounds<'a, P> {
         'push: loop {
             let before = self.count;
             for activity in 0..project.count() {
-                let step = self.closed_step(activity);
-                if let Some(last) = self.take(step) {
+                if let Some(last) = self.take(self.closed_step(activity)) {
                     break 'push Some(last);
                 }
             }
             for number in 0..project.lag_count() {
-                let step = self.lag_step(number);
-                if let Some(last) = self.take(step) {
+                if let Some(last) = self.take(self.lag_step(number)) {
                     break 'push Some(last);
                 }
             }

@@ -34,7 +34,7 @@ impl How {
     {
         match self {
             How::Start => 0,
-            How::PastClosed(height) => height as u16,
+            How::PastClosed(height) => u16::from(height),
             How::ByLag(number) => number,
         }
     }

@@ -23,7 +23,8 @@ pub fn chain_entries<P: Project>(project: &P) -> usize
     usize::from(project.count()) * usize::from(project.horizon()) + 1
 }
 
-// Pushes the bounds, and writes the starts or the chain. The words are left clean.
+// Pushes the bounds, and writes the starts or the chain. The words are left clean. A function of
+// its own: under a guard over a part of the nodes, the proof lacks what that part ends as.
 fn settle<P: Project>(
     project: &P,
     starts: &mut [u8],

@@ -1,5 +1,5 @@
 // Reading a chain out of the nodes: back from the horizon to slot 0, and then turned round.
-ghost use Rattle.std.specs.Prelude.{◌≡◌, ◌≤◌, ◌++◌, reverse, length as size, take, drop};
+ghost use Rattle.std.specs.Prelude.{◌≡◌, ◌≤◌, length as size};
 ghost use Rattle.earliest.specs.Nodes.{node_of};
 ghost use Rattle.earliest.specs.Outcome.{entries_needed, Explained};
 ghost use Rattle.earliest.specs.Pushing.{origin, latest_of, Reaches};
@@ -23,15 +23,6 @@ fn origin_of<P: Project>(project: &P, entry: Entry) -> u16
     } else {
         entry.activity
     }
-}
-
-// Turns the first entries round.
-fn turn(chain: &mut [Entry], length: usize)
-    requires { length ≤ size chain.old }
-    ensures { chain.new
-        ≡ reverse (take length chain.old) ++ drop length chain.old }
-{
-    chain[..length].reverse();
 }
 
 impl<P: Project> Bounds<'_, P> {
@@ -67,7 +58,7 @@ impl<P: Project> Bounds<'_, P> {
         ensures { Explained (P.meaning self.now.project.now) chain.old chain.new result }
     {
         let length = self.gather(last, chain);
-        turn(chain, length);
+        chain[..length].reverse();
         length as u16
     }
 }

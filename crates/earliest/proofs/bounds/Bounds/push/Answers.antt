@@ -18,7 +18,7 @@ loop-number-preserved g c =
           i.onward i.all_open c.take-in-loop-number.ensures.taken;
       all_hold = none_more (λ ns ls k. lag_step m (node_of ns) (latest_of ls) k) c.loop-number.number c.push.self.count x.count y.count x.nodes.now y.nodes.now x.latest y.latest _ _
           i.onward i.all_hold c.take-in-loop-number.ensures.taken
-          (c.lag_step-step.ensures ∙ ap (λ p. lag_step (g.P.Project.meaning p) (node_of x.nodes.now) (latest_of x.latest) c.loop-number.number) i.same) c.in_default-take.is;
+          (c.lag_step.ensures ∙ ap (λ p. lag_step (g.P.Project.meaning p) (node_of x.nodes.now) (latest_of x.latest) c.loop-number.number) i.same) c.in_default-take.is;
     }
 
 pub push-smaller : goal.push-smaller

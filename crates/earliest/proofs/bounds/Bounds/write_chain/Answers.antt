@@ -10,4 +10,4 @@ overflow_cast-result g c =
 
 pub returns : goal.returns
 returns g c =
-    explained (g.P.Project.meaning c.args.self.now.project.now) c.args.chain.now c.gather-length.new.chain c.turn.new.chain c.gather-length.result c.gather-length.ensures c.turn.ensures
+    explained (g.P.Project.meaning c.args.self.now.project.now) c.args.chain.now c.gather-length.new.chain _ c.gather-length.result c.gather-length.ensures (search rules)
