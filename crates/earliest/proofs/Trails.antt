@@ -19,6 +19,8 @@ pub record Walk (m : Meaning) (nd : ℕ → Node) (c : ℕ) (before after : List
   pub some : 1 ≤ k
   pub few : k + v.parent ≤ c + 1
   pub room : k + 1 ≤ entries_needed m
+  pub small : k + 1 ≤ 8193
+  pub long : entries_needed m ≤ length after
   pub rest : drop k after ≡ drop k before
 
 pub reverse_put : {A : Type 0} (xs : List A) (k : ℕ) (x : A) → k < length xs → reverse (take (k + 1) (set xs k x)) ≡ x ∷ reverse (take k xs)
@@ -39,50 +41,57 @@ enough m b =
     let h : m.horizon - 1 + 1 ≡ m.horizon = omega (arith, b.h_low) in
     omega (arith, e, ap (λ (x : ℕ). m.n * x) h, b.n_low)
 
-module _ (m : Meaning) (nd : ℕ → Node) (la : ℕ → ℕ) (c : ℕ) (b : Bounds m) (s : State m nd la c) where
-  room_for : (k p : ℕ) → k + p ≤ c + 1 → k + 1 ≤ entries_needed m
-  room_for k p few = omega (arith, nodes_few m nd la c s, enough m b)
-
-  pub walk_start : (v : Node) (es : List Entry) → Reaches m nd la v → 0 < length es → Walk m nd c es (set es 0 v.entry) 1 v
-  walk_start v es d lt =
-      let t = trail_start m nd la c v s d.0 d.1 in
-      let few : 1 + v.parent ≤ c + 1 = omega (arith, t.known) in
-      record {
-        trail = subst (λ (rs : List Entry). Trail m nd c v rs) (sym (reverse_put es 0 v.entry lt)) t;
-        some = omega arith;
-        few = few;
-        room = room_for 1 v.parent few;
-        rest = drop-set-lt 1 es 0 v.entry (omega arith);
-      }
-
-  pub walk_more : (before after : List Entry) (k : ℕ) (v : Node) → k < length after → Walk m nd c before after k v → 0 < v.parent → Walk m nd c before (set after k (nd v.parent).entry) (k + 1) (nd v.parent)
-  walk_more before after k v lt w some =
-      let p = nd v.parent in
-      let few : k + 1 + p.parent ≤ c + 1 = omega (arith, w.few, (s.sound v.parent some w.trail.known).earlier) in
-      record {
-        trail = subst (λ (rs : List Entry). Trail m nd c p rs) (sym (reverse_put after k p.entry lt)) (trail_more m nd la c v (reverse (take k after)) s w.trail some);
-        some = omega arith;
-        few = few;
-        room = room_for (k + 1) p.parent few;
-        rest = drop_put after before k p.entry w.rest;
-      }
-
-  pub walk_end : (before after : List Entry) (k : ℕ) (v : Node) → k < length after → Walk m nd c before after k v → v.parent ≡ 0
-      → Gathered m before (set after k (start_entry (origin m v.entry.how v.entry.activity))) (k + 1)
-  walk_end before after k v lt w none =
-      let o = origin m v.entry.how v.entry.activity in
-      record {
-        chain = subst (λ (rs : List Entry). Chain m rs) (sym (reverse_put after k (start_entry o) lt))
-            (trail_end m nd la c v (reverse (take k after)) s (omega (arith, b.h_low)) w.trail none);
-        some = w.room;
-        within = simp length-set (omega arith);
-        rest = drop_put after before k (start_entry o) w.rest;
-      }
-
 pub entries_fit : (m : Meaning) → Bounds m → entries_needed m ≤ 8193
 entries_fit m b =
     let p : m.n * m.horizon ≤ 64 * 128 = mul-le-mul b.n_high b.h_high in
     omega (arith, p)
+
+module _ (m : Meaning) (nd : ℕ → Node) (la : ℕ → ℕ) (c : ℕ) (b : Bounds m) (s : State m nd la c) where
+  room_for : (k p : ℕ) → k + p ≤ c + 1 → k + 1 ≤ entries_needed m
+  room_for k p few = omega (arith, nodes_few m nd la c s, enough m b)
+
+  pub walk_start : (v : Node) (es : List Entry) → Reaches m nd la v → entries_needed m ≤ length es → Walk m nd c es (set es 0 v.entry) 1 v
+  walk_start v es d long =
+      let t = trail_start m nd la c v s d.0 d.1 in
+      let few : 1 + v.parent ≤ c + 1 = omega (arith, t.known) in
+      let room = room_for 1 v.parent few in
+      record {
+        trail = subst (λ (rs : List Entry). Trail m nd c v rs) (sym (reverse_put es 0 v.entry (omega (arith, room)))) t;
+        some = omega arith;
+        few = few;
+        room = room;
+        small = omega (arith, room, entries_fit m b);
+        long = simp length-set long;
+        rest = drop-set-lt 1 es 0 v.entry (omega arith);
+      }
+
+  pub walk_more : (before after : List Entry) (k : ℕ) (v : Node) → Walk m nd c before after k v → 0 < v.parent → Walk m nd c before (set after k (nd v.parent).entry) (k + 1) (nd v.parent)
+  walk_more before after k v w some =
+      let p = nd v.parent in
+      let few : k + 1 + p.parent ≤ c + 1 = omega (arith, w.few, (s.sound v.parent some w.trail.known).earlier) in
+      let room = room_for (k + 1) p.parent few in
+      record {
+        trail = subst (λ (rs : List Entry). Trail m nd c p rs) (sym (reverse_put after k p.entry (omega (arith, w.room, w.long)))) (trail_more m nd la c v (reverse (take k after)) s w.trail some);
+        some = omega arith;
+        few = few;
+        room = room;
+        small = omega (arith, room, entries_fit m b);
+        long = simp length-set w.long;
+        rest = drop_put after before k p.entry w.rest;
+      }
+
+  pub walk_end : (before after : List Entry) (k : ℕ) (v : Node) (a : ℕ) → Walk m nd c before after k v → v.parent ≡ 0 → a ≡ origin m v.entry.how v.entry.activity
+      → Gathered m before (set after k (start_entry a)) (k + 1)
+  walk_end before after k v a w none is =
+      let o = origin m v.entry.how v.entry.activity in
+      rw is
+      record {
+        chain = subst (λ (rs : List Entry). Chain m rs) (sym (reverse_put after k (start_entry o) (omega (arith, w.room, w.long))))
+            (trail_end m nd la c v (reverse (take k after)) s (omega (arith, b.h_low)) w.trail none);
+        some = w.room;
+        within = simp length-set (omega (arith, w.room, w.long));
+        rest = drop_put after before k (start_entry o) w.rest;
+      }
 
 -- turned round, what was gathered is the chain
 pub explained : (m : Meaning) (before xs after : List Entry) (k : ℕ) → Gathered m before xs k → after ≡ reverse (take k xs) ++ drop k xs → Explained m before after k

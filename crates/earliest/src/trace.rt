@@ -3,7 +3,7 @@ ghost use Rattle.std.specs.Prelude.{◌≡◌, ◌≤◌, length as size};
 ghost use Rattle.earliest.specs.Nodes.{node_of};
 ghost use Rattle.earliest.specs.Outcome.{entries_needed, Explained};
 ghost use Rattle.earliest.specs.Pushing.{origin, latest_of, Reaches};
-ghost use Rattle.earliest.specs.Tracing.{Known, Gathered};
+ghost use Rattle.earliest.specs.Tracing.{Known};
 
 use crate::bounds::Bounds;
 use crate::chain::{Entry, How};
@@ -26,14 +26,14 @@ fn origin_of<P: Project>(project: &P, entry: Entry) -> u16
 }
 
 impl<P: Project> Bounds<'_, P> {
-    // Writes the chain that ends in `last`, last entry first, and says how long it is.
-    fn gather(&self, last: Node, chain: &mut [Entry]) -> usize
+    /// Writes the chain that ends in `last` and says how long it is.
+    pub fn write_chain(&self, last: Node, chain: &mut [Entry]) -> u16
         requires driven { Reaches (P.meaning self.now.project.now)
             (node_of self.now.nodes.now) (latest_of self.now.latest) last }
         requires room { entries_needed (P.meaning self.now.project.now) ≤ size chain.old }
-        ensures { Gathered (P.meaning self.now.project.now) chain.old chain.new result }
+        ensures { Explained (P.meaning self.now.project.now) chain.old chain.new result }
     {
-        // The caller's entries hold the chain, so its length stands beside them.
+        // The entries are lent, so the length of the chain stands beside them.
         let mut node = last;
         chain[0] = node.entry;
         let mut length = 1;
@@ -47,18 +47,7 @@ impl<P: Project> Bounds<'_, P> {
             slot: Slot(0),
             how: How::Start,
         };
-        length + 1
-    }
-
-    /// Writes the chain that ends in `last` and says how long it is.
-    pub fn write_chain(&self, last: Node, chain: &mut [Entry]) -> u16
-        requires driven { Reaches (P.meaning self.now.project.now)
-            (node_of self.now.nodes.now) (latest_of self.now.latest) last }
-        requires room { entries_needed (P.meaning self.now.project.now) ≤ size chain.old }
-        ensures { Explained (P.meaning self.now.project.now) chain.old chain.new result }
-    {
-        let length = self.gather(last, chain);
-        chain[..length].reverse();
-        length as u16
+        chain[..=length].reverse();
+        length as u16 + 1
     }
 }

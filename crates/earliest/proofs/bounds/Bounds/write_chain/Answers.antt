@@ -1,13 +1,30 @@
-use Rattle.std.proofs.Common.{rules}
-use Rattle.earliest.proofs.Trails.{entries_fit, explained}
+use Rattle.std.proofs.Common.{◌+◌, set, arith, rules}
+use Rattle.earliest.specs.Nodes.{node_of}
+use Rattle.earliest.specs.Pushing.{latest_of}
+use Rattle.earliest.proofs.Trails.{walk_start, walk_more, walk_end, explained}
+use Rattle.earliest.proofs.Tracing.{start_entry}
 use Rattle.earliest.proofs.bounds.Bounds.write_chain.Goals as goal
 
-pub overflow_cast-result : goal.overflow_cast-result
-overflow_cast-result g c =
-    let x = c.args.self.now.project.now in
-    let fit = entries_fit (g.P.Project.meaning x) (g.P.Project.bounded x) in
-    search rules
+pub loop-node-init : goal.loop-node-init
+loop-node-init g c =
+    let x = c.args.self.now in
+    walk_start (g.P.Project.meaning x.project.now) (node_of x.nodes.now) (latest_of x.latest) x.count (g.P.Project.bounded x.project.now) x.state
+    c.args.last c.args.chain.now c.requires.driven c.requires.room
+
+pub loop-node-preserved : goal.loop-node-preserved
+loop-node-preserved g c =
+    let x = c.args.self.now in
+    let l = c.loop-node in
+    rw c.node-node.ensures
+    (walk_more (g.P.Project.meaning x.project.now) (node_of x.nodes.now) (latest_of x.latest) x.count (g.P.Project.bounded x.project.now) x.state
+    c.args.chain.now l.chain l.length l.node l.invariant (omega (arith, c.loop-node-test.true)))
 
 pub returns : goal.returns
 returns g c =
-    explained (g.P.Project.meaning c.args.self.now.project.now) c.args.chain.now c.gather-length.new.chain _ c.gather-length.result c.gather-length.ensures (search rules)
+    let x = c.args.self.now in
+    let m = g.P.Project.meaning x.project.now in
+    let l = c.loop-node in
+    explained m c.args.chain.now (set l.chain l.length (start_entry c.origin_of.result)) _ (l.length + 1)
+    (walk_end m (node_of x.nodes.now) (latest_of x.latest) x.count (g.P.Project.bounded x.project.now) x.state
+    c.args.chain.now l.chain l.length l.node c.origin_of.result l.invariant c.loop-node-test.false c.origin_of.ensures)
+    (search rules)
