@@ -1,4 +1,5 @@
-use Rattle.std.proofs.Common.{◌+◌, set, arith, rules}
+use Rattle.std.proofs.Common.{◌+◌, set, ap, arith, rules}
+use Rattle.earliest.specs.declared.nodes.Node.{Node}
 use Rattle.earliest.specs.Nodes.{node_of}
 use Rattle.earliest.specs.Pushing.{latest_of}
 use Rattle.earliest.proofs.Trails.{walk_start, walk_more, walk_end, explained}
@@ -18,6 +19,11 @@ loop-node-preserved g c =
     rw c.node-node.ensures
     (walk_more (g.P.Project.meaning x.project.now) (node_of x.nodes.now) (latest_of x.latest) x.count (g.P.Project.bounded x.project.now) x.state
     c.args.chain.now l.chain l.length l.node l.invariant (omega (arith, c.loop-node-test.true)))
+
+pub loop-node-smaller : goal.loop-node-smaller
+loop-node-smaller g c =
+    let sound = c.args.self.now.state.sound c.loop-node.node.parent (omega (arith, c.loop-node-test.true)) c.loop-node.invariant.trail.known in
+    omega (arith, sound.earlier, ap (λ (v : Node). v.parent) c.node-node.ensures)
 
 pub returns : goal.returns
 returns g c =
