@@ -30,6 +30,7 @@ pub struct Bounds<'a, P: Project> {
     pub project: &'a P,
     pub nodes: &'a mut [[u32; 4]],
     pub latest: [u32; ACTIVITIES],
+    // Beside the nodes, since lent words are no `Vec`.
     pub count: u32,
     ghost room: { node_count (P.meaning project.now) ≤ length nodes.now },
     ghost state: { State (P.meaning project.now) (node_of nodes.now) (latest_of latest) count } by { State-prop (P.meaning project.now) (node_of nodes.now) (latest_of latest) count },

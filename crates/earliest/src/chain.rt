@@ -21,6 +21,7 @@ impl How {
     pub fn code(self) -> u8
         ensures { result ≡ (as_numbers self).0 }
     {
+        // A case that carries a value has no number by `as`.
         match self {
             How::Start => 0,
             How::PastClosed(_) => 1,

@@ -5,14 +5,16 @@ ghost use Rattle.earliest.specs.Nodes.{of_words};
 use crate::chain::{Entry, How};
 use model::time::Slot;
 
-/// An entry, and the number of the node before it: 0 if that is the first entry of a chain.
+/// An entry, and the number of the node before it. Node 0 stands for slot 0 of any activity, where
+/// every chain begins.
 #[derive(Clone, Copy)]
 pub struct Node {
     pub entry: Entry,
+    // A number and no `Box`: nodes stand in lent words.
     pub parent: u32,
 }
 
-/// Activity, slot, how and parent, a word each.
+/// Activity, slot, how and parent, a word each: lent memory has words alone.
 impl From<Node> for [u32; 4] {
     ghost from_gives = { λ node words. of_words words ≡ node };
 
@@ -40,11 +42,11 @@ impl From<[u32; 4]> for Node {
         let how = match how {
             0 => How::Start,
             1..=256 => How::PastClosed((how - 1) as u8),
-            _ => How::ByLag((how - 257).min(65_535) as u16),
+            _ => How::ByLag(u16::try_from(how - 257).unwrap_or(u16::MAX)),
         };
         let entry = Entry {
-            activity: activity.min(65_535) as u16,
-            slot: Slot(slot.min(65_535) as u16),
+            activity: u16::try_from(activity).unwrap_or(u16::MAX),
+            slot: Slot(u16::try_from(slot).unwrap_or(u16::MAX)),
             how,
         };
         Node { entry, parent }
