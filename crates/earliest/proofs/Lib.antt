@@ -1,8 +1,6 @@
 pub mod Refute
-pub mod Words
 pub mod Totals
 pub mod Steps
-pub mod Asked
 pub mod Loops
 pub mod Tracing
 pub mod Trails

@@ -1,12 +1,12 @@
--- The turns of the loops that push: what each step asks, and what a turn leaves.
-use Rattle.std.proofs.Common.{◌≡◌, ℕ, ◌+◌, ◌-◌, ◌*◌, ◌<◌, ◌≤◌, List, length, set, sym, subst, mul-le-mul, arith}
-use Rattle.std.proofs.lemmas.List.{get_or-set_same, get_or-set_other}
+-- What keeping a node leaves, and what a step that was taken tells of all before it.
+use Rattle.std.proofs.Common.{◌≡◌, ℕ, ◌+◌, ◌-◌, ◌*◌, ◌<◌, ◌≤◌, List, [], length, set, None, Option, replicate, sym, ap, ◌∙◌, subst, mul-le-mul, arith, below_more}
+use Rattle.std.proofs.lemmas.List.{get_or-set_same, get_or-set_other, get_or-replicate}
 use Rattle.model.specs.Meaning.{Meaning, Bounds}
 use Rattle.earliest.specs.declared.nodes.Node.{Node}
-use Rattle.earliest.specs.Nodes.{node_of, Put}
-use Rattle.earliest.specs.Outcome.{words_needed}
-use Rattle.earliest.specs.Pushing.{latest_of, Ready, Pushes, State}
-use Rattle.earliest.proofs.Steps.{pushed, nodes_few}
+use Rattle.earliest.specs.Nodes.{of_words, node_of}
+use Rattle.earliest.specs.Outcome.{node_count}
+use Rattle.earliest.specs.Pushing.{latest_of, Pushes, State, Taken}
+use Rattle.earliest.proofs.Steps.{fresh, pushed, nodes_few}
 
 pub few_fit : (m : Meaning) (nd : ℕ → Node) (la : ℕ → ℕ) (c : ℕ) → Bounds m → State m nd la c → c ≤ 8128
 few_fit m nd la c b s =
@@ -14,32 +14,38 @@ few_fit m nd la c b s =
     let p : m.n * (m.horizon - 1) ≤ 64 * 127 = mul-le-mul b.n_high h in
     omega (arith, nodes_few m nd la c s, p)
 
-pub ready : (m : Meaning) (xs ls : List ℕ) (c : ℕ) → State m (node_of xs) (latest_of ls) c → words_needed m ≤ length xs → m.n ≤ length ls → Ready m xs ls
-ready m xs ls c s room long = record {
-  all = long;
-  stand = λ a lt. omega (arith, room, s.numbered a lt, nodes_few m (node_of xs) (latest_of ls) c s);
-  low = s.below;
-}
-
-pub room_left : (m : Meaning) (nd : ℕ → Node) (la : ℕ → ℕ) (c k : ℕ) → State m nd la c → words_needed m ≤ k → 4 * (c + 1) + 3 < k
-room_left m nd la c k s room = omega (arith, room, nodes_few m nd la c s)
+-- node 0 is written, and no activity has a node yet
+pub begun : (m : Meaning) (ns : List (List ℕ)) (ws : List ℕ) → Bounds m → 0 < length ns → (of_words ws).entry.slot.0 ≡ 0
+    → State m (node_of (set ns 0 ws)) (latest_of (replicate 64 0)) 0
+begun m ns ws b room root =
+    fresh m (node_of (set ns 0 ws)) (latest_of (replicate 64 0)) b
+    (ap (λ (w : List ℕ). (of_words w).entry.slot.0) (get_or-set_same ns 0 ws [] room) ∙ root)
+    (λ a lt. get_or-replicate 64 a 0 0 (omega (arith, b.n_high)))
 
 -- a node was kept
-pub kept : (m : Meaning) (xs xs' ys ls ls' : List ℕ) (c c' : ℕ) (v : Node)
-    → State m (node_of xs) (latest_of ls) c → Pushes m (node_of xs) (latest_of ls) v → v.entry.slot.0 < m.horizon → m.n ≤ length ls
-    → Put xs ys (c + 1) v → xs' ≡ ys → ls' ≡ set ls v.entry.activity (c + 1) → c' ≡ c + 1
-    → State m (node_of xs') (latest_of ls') c'
-kept m xs xs' ys ls ls' c c' v s p low long put we le ce =
-    let a = v.entry.activity in
-    let t : State m (node_of ys) (latest_of (set ls a (c + 1))) (c + 1) =
-    pushed m (node_of xs) (node_of ys) (latest_of ls) (latest_of (set ls a (c + 1))) c v s p low put.here put.elsewhere
-    (get_or-set_same ls a (c + 1) 0 (omega (arith, p.real)))
-    (λ b ne. get_or-set_other ls a b (c + 1) 0 ne) in
-    subst (λ (zs : List ℕ). State m (node_of zs) (latest_of ls') c') (sym we)
-    (subst (λ (ks : List ℕ). State m (node_of ys) (latest_of ks) c') (sym le)
-    (subst (λ (k : ℕ). State m (node_of ys) (latest_of (set ls a (c + 1))) k) (sym ce) t))
+pub kept : (m : Meaning) (ns : List (List ℕ)) (ls : List ℕ) (c : ℕ) (ws : List ℕ) (v : Node)
+    → State m (node_of ns) (latest_of ls) c → Pushes m (node_of ns) (latest_of ls) v → v.entry.slot.0 < m.horizon
+    → m.n ≤ length ls → node_count m ≤ length ns → of_words ws ≡ v
+    → State m (node_of (set ns (c + 1) ws)) (latest_of (set ls v.entry.activity (c + 1))) (c + 1)
+kept m ns ls c ws v s p low long room is =
+    pushed m (node_of ns) (node_of (set ns (c + 1) ws)) (latest_of ls) (latest_of (set ls v.entry.activity (c + 1))) c v s p low
+    (ap of_words (get_or-set_same ns (c + 1) ws [] (omega (arith, room, nodes_few m (node_of ns) (latest_of ls) c s))) ∙ is)
+    (λ f ne. ap of_words (get_or-set_other ns (c + 1) f ws [] ne))
+    (get_or-set_same ls v.entry.activity (c + 1) 0 (omega (arith, p.real)))
+    (λ b ne. get_or-set_other ls v.entry.activity b (c + 1) 0 ne)
 
--- nothing was pushed
-pub left : (P : List ℕ → List ℕ → ℕ → Type 0) (xs xs' ls ls' : List ℕ) (c c' : ℕ) → xs' ≡ xs → ls' ≡ ls → c' ≡ c → P xs ls c → P xs' ls' c'
-left P xs xs' ls ls' c c' we le ce p =
-    subst (λ (zs : List ℕ). P zs ls' c') (sym we) (subst (λ (ks : List ℕ). P xs ks c') (sym le) (subst (λ (k : ℕ). P xs ls k) (sym ce) p))
+-- as long as nothing is pushed, no step before found a node
+pub still_none : (f : List (List ℕ) → List ℕ → ℕ → Option Node) (i c0 c c' : ℕ) (ns ns' : List (List ℕ)) (ls ls' : List ℕ) (s r : Option Node)
+    → c0 ≤ c → (c ≡ c0 → (a : ℕ) → a < i → f ns ls a ≡ None) → Taken ns ls c ns' ls' c' s r
+    → c' ≡ c0 → (a : ℕ) → a < i → f ns' ls' a ≡ None
+still_none f i c0 c c' ns ns' ls ls' s r le before t same =
+    let t' = t.idle (omega (arith, t.onward)) in
+    subst (λ (xs : List (List ℕ)). (a : ℕ) → a < i → f xs ls' a ≡ None) (sym t'.0)
+    (subst (λ (ks : List ℕ). (a : ℕ) → a < i → f ns ks a ≡ None) (sym t'.1) (before (omega (arith, t.onward))))
+
+pub none_more : (f : List (List ℕ) → List ℕ → ℕ → Option Node) (i c0 c c' : ℕ) (ns ns' : List (List ℕ)) (ls ls' : List ℕ) (s r : Option Node)
+    → c0 ≤ c → (c ≡ c0 → (a : ℕ) → a < i → f ns ls a ≡ None) → Taken ns ls c ns' ls' c' s r → s ≡ f ns ls i → r ≡ None
+    → c' ≡ c0 → (a : ℕ) → a < i + 1 → f ns' ls' a ≡ None
+none_more f i c0 c c' ns ns' ls ls' s r le before t asked none same =
+    still_none f (i + 1) c0 c c' ns ns' ls ls' s r le
+    (λ e. below_more (λ a. f ns ls a ≡ None) i (before e) (sym asked ∙ t.none none (omega (arith, t.onward)))) t same

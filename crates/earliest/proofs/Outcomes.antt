@@ -1,7 +1,7 @@
 -- What the end of the pushing tells: the earliest starts, or that no list meets.
 use Rattle.std.proofs.Common.{◌≡◌, ℕ, ◌-◌, ◌*◌, ◌<◌, ◌≤◌, true, false, List, ◌++◌, length, take, drop, replicate, pos, ◌+ℤ◌, ◌≤ℤ◌, Some, None, Ok, Err, Decides, Option, Result, sym, refl, ap, ◌∙◌, subst, mul-le-mul, arith}
 use Rattle.std.proofs.lemmas.List.FromFn.{length-map-range_with_len, get_or-map-range_with_len}
-use Rattle.std.proofs.lemmas.List.{take_at, length-replicate, get_or-replicate}
+use Rattle.std.proofs.lemmas.List.{take_at}
 use Rattle.std.proofs.lemmas.Bool.{le-ltb}
 use Rattle.model.specs.declared.refusal.Fault.TheVariants as fault
 use Rattle.model.specs.declared.refusal.Refusal.{Refusal}
@@ -12,9 +12,8 @@ use Rattle.model.specs.Chosen.{Earliest, NoneMeets}
 use Rattle.model.proofs.Search.{earliest_first, none_defined_exactly}
 use Rattle.earliest.specs.declared.chain.Entry.{Entry}
 use Rattle.earliest.specs.declared.nodes.Node.{Node}
-use Rattle.earliest.specs.Nodes.{node_of}
 use Rattle.earliest.specs.Outcome.{words_needed, entries_needed, Explained, Ending, impossible, found, searched, ending, answer_of, place_of, says_impossible, nodes_after, Enough, Told, Outcome}
-use Rattle.earliest.specs.Pushing.{bound, bounds, latest_of, State, Quiet, Fresh}
+use Rattle.earliest.specs.Pushing.{bound, bounds, State, Quiet}
 use Rattle.earliest.proofs.Refute.{refute}
 use Rattle.earliest.proofs.Steps.{open_when_none, holds_when_none}
 
@@ -78,15 +77,6 @@ searched_exactly m (Some s) k r e is = (
 pub exactly : (m : Meaning) (s w c : ℕ) (r : Result (Unit {0}) Refusal) → r ≡ answer_of (ending m s w c) (place_of r) → Enough m s w c → Decides (says_impossible r) (NoneMeets m)
 exactly m s w c r is e =
     searched_exactly m (earliest m) (place_of r) r refl (is ∙ ap (λ (x : Ending). answer_of x (place_of r)) (enough_ending m s w c e))
-
--- node 0 is written, and no activity has a node yet
-pub fresh_memory : (m : Meaning) (xs ls : List ℕ) → Bounds m → words_needed m ≤ length xs → (node_of xs 0).entry.slot.0 ≡ 0 → ls ≡ replicate 64 0 → Fresh m xs ls
-fresh_memory m xs ls b room root is = record {
-  room = room;
-  all = omega (arith, b.n_high, ap length is, length-replicate {A = ℕ} 64 0);
-  unwritten = root;
-  none_yet = λ a lt. ap (λ (ks : List ℕ). latest_of ks a) is ∙ get_or-replicate 64 a 0 0 (omega (arith, b.n_high));
-}
 
 pub words_fit : (m : Meaning) → Bounds m → words_needed m ≤ 32520
 words_fit m b =

@@ -22,10 +22,6 @@ pub cut_kept : (h : ℕ) (z : ℤ) (y : ℕ) → cut_to h z ≤ y → y < h → 
 cut_kept h (pos x) y le lt = omega (arith, ints)
 cut_kept h (negsuc x) y le lt = omega (arith, ints)
 
-pub cut_small : (h : ℕ) (z : ℤ) → cut_to h z ≤ h
-cut_small h (pos x) = omega arith
-cut_small h (negsuc x) = omega arith
-
 pub open_not_closed : (p : Price) (h : ℕ) → p ≡ Closed h → is_open p ≡ true → ⊥
 open_not_closed p h e o =
     let z : true ≡ false = sym o ∙ ap is_open e in

@@ -1,14 +1,13 @@
 -- What a push does to the state: each step is sound, and the state is kept.
 use Rattle.std.proofs.Common.{◌≡◌, ℕ, ◌+◌, ◌-◌, ◌*◌, ◌<◌, ◌≤◌, Bool, true, false, cond, ltb, pos, ◌+ℤ◌, ◌≤ℤ◌, Some, None, Option, sym, refl, ap, ◌∙◌, subst, ⊎_elim, arith}
-use Rattle.std.proofs.lemmas.Bool.{cases_eq, ltb-true, ltb-false}
+use Rattle.std.proofs.lemmas.Bool.{cases_eq, ltb-false}
 use Rattle.model.specs.declared.price.Price.{Price}
 use Rattle.model.specs.declared.price.Price.TheVariants.{Open, Closed}
 use Rattle.model.specs.Meaning.{Meaning, Bounds}
 use Rattle.model.specs.Starts.{start, is_open}
-use Rattle.earliest.specs.declared.chain.How.TheVariants.{PastClosed}
 use Rattle.earliest.specs.declared.nodes.Node.{Node}
-use Rattle.earliest.specs.Pushing.{bound, past, closed_step, lag_slot, lag_node, lag_step, origin, Pushes, Sound, State}
-use Rattle.earliest.proofs.Refute.{leads_on, cut_small, cut_kept}
+use Rattle.earliest.specs.Pushing.{bound, past, lag_slot, lag_node, lag_step, origin, Pushes, Sound, State}
+use Rattle.earliest.proofs.Refute.{leads_on, cut_kept}
 use Rattle.earliest.proofs.Totals.{total_more, total_most}
 
 abbrev act : Node → ℕ
@@ -130,42 +129,6 @@ fresh m nd la b root none =
       sound = λ e some le. absurd (omega arith);
       apart = λ e f some lt le same. absurd (omega arith);
     }
-
-past_pushes : (m : Meaning) (nd : ℕ → Node) (la : ℕ → ℕ) (a : ℕ) (q : Price) (v : Node) → m.price a (bound nd la a) ≡ q → a < m.n → bound nd la a < m.horizon → past q a (bound nd la a) (la a) ≡ Some v → Pushes m nd la v
-past_pushes m nd la a (Open x) v e lt low is = let z : ◌≡◌ {A = ℕ} 0 1 = cc in absurd (omega arith)
-past_pushes m nd la a (Closed h) v e lt low is =
-    let w : Node = record { entry = record { activity = a; slot = record { 0 = bound nd la a + 1 }; how = PastClosed h }; parent = la a } in
-    let same : w ≡ v = cc in
-    let t : Pushes m nd la w = record {
-      real = lt;
-      origin_real = lt;
-      parent_latest = refl;
-      leads = (e, refl, refl);
-      above = omega arith;
-      within = omega arith;
-    } in
-    subst (λ (x : Node). Pushes m nd la x) same t
-
-pub closed_pushes : (m : Meaning) (nd : ℕ → Node) (la : ℕ → ℕ) (a : ℕ) (v : Node) → a < m.n → bound nd la a < m.horizon → closed_step m nd la a ≡ Some v → Pushes m nd la v
-closed_pushes m nd la a v lt low is = past_pushes m nd la a (m.price a (bound nd la a)) v refl lt low is
-
-lag_test : (b : Bool) (w v : Node) → cond {A = Option Node} b (Some w) None ≡ Some v → (b ≡ true) × (w ≡ v)
-lag_test true w v e = (refl, cc)
-lag_test false w v e = let z : ◌≡◌ {A = ℕ} 0 1 = cc in absurd (omega arith)
-
-pub lag_pushes : (m : Meaning) (nd : ℕ → Node) (la : ℕ → ℕ) (k : ℕ) (v : Node) → Bounds m → k < m.lags → lag_step m nd la k ≡ Some v → Pushes m nd la v
-lag_pushes m nd la k v b lt is =
-    let w = lag_node m nd la k in
-    let t = lag_test (ltb (bound nd la (m.lag k).to) (lag_slot m nd la k)) w v is in
-    let q : Pushes m nd la w = record {
-      real = (b.lag_ok k lt).to_ok;
-      origin_real = (b.lag_ok k lt).from_ok;
-      parent_latest = refl;
-      leads = (lt, refl, refl, refl);
-      above = ltb-true (bound nd la (m.lag k).to) (lag_slot m nd la k) t.0;
-      within = cut_small m.horizon (pos (bound nd la (m.lag k).from) +ℤ (m.lag k).gap);
-    } in
-    subst (λ (x : Node). Pushes m nd la x) t.1 q
 
 pub open_when_none : (q : Price) (a t e : ℕ) → past q a t e ≡ None → is_open q ≡ true
 open_when_none (Open x) a t e is = refl

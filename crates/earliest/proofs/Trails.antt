@@ -1,5 +1,5 @@
 -- The walk back, as a loop: entries written so far, and the node that it stands at.
-use Rattle.std.proofs.Common.{◌≡◌, ℕ, ◌+◌, ◌-◌, ◌*◌, ◌<◌, ◌≤◌, List, [], ◌∷◌, ◌++◌, reverse, length, take, drop, set, sym, refl, ap, ◌∙◌, subst, mul-le-mul, mul-add, arith, length-set}
+use Rattle.std.proofs.Common.{◌≡◌, ℕ, ◌+◌, ◌-◌, ◌*◌, ◌<◌, ◌≤◌, List, [], ◌∷◌, ◌++◌, reverse, length, take, drop, set, sym, ap, ◌∙◌, subst, mul-le-mul, mul-add, arith, length-set}
 use Rattle.std.proofs.lemmas.List.{reverse-append, take_more_set, drop-set-lt, drop-drop, take_at, drop_at, length-reverse, length-take-le, length-append}
 use Rattle.model.specs.Meaning.{Meaning, Bounds}
 use Rattle.earliest.specs.declared.chain.How.{How}
@@ -7,21 +7,20 @@ use Rattle.earliest.specs.declared.chain.How.TheVariants.{Start, PastClosed, ByL
 use Rattle.earliest.specs.declared.chain.Entry.{Entry}
 use Rattle.earliest.specs.declared.nodes.Node.{Node}
 use Rattle.earliest.specs.Chain.{Leads, Chain}
-use Rattle.earliest.specs.Nodes.{node_of}
-use Rattle.earliest.specs.Outcome.{words_needed, entries_needed, Explained}
-use Rattle.earliest.specs.Pushing.{State, origin}
-use Rattle.earliest.specs.Tracing.{Known, Driven, Gathered}
+use Rattle.earliest.specs.Outcome.{entries_needed, Explained}
+use Rattle.earliest.specs.Pushing.{State, Reaches, origin}
+use Rattle.earliest.specs.Tracing.{Known, Gathered}
 use Rattle.earliest.proofs.Steps.{nodes_few}
 use Rattle.earliest.proofs.Tracing.{Trail, trail_start, trail_more, trail_end, start_entry}
 
 -- k entries are written, back to front, and the walk stands at node v
-pub record Walk (m : Meaning) (xs : List ℕ) (before after : List Entry) (k : ℕ) (v : Node) : Type 0 where
-  pub latest : ℕ → ℕ
-  pub count : ℕ
-  pub state : State m (node_of xs) latest count
-  pub trail : Trail m (node_of xs) count v (reverse (take k after))
+pub record Walk (m : Meaning) (nd : ℕ → Node) (c : ℕ) (before after : List Entry) (k : ℕ) (v : Node) : Type 0 where
+  pub trail : Trail m nd c v (reverse (take k after))
   pub some : 1 ≤ k
-  pub few : k + v.parent ≤ count + 1
+  pub few : k + v.parent ≤ c + 1
+  pub room : k + 1 ≤ entries_needed m
+  pub small : k + 1 ≤ 8193
+  pub long : entries_needed m ≤ length after
   pub rest : drop k after ≡ drop k before
 
 pub reverse_put : {A : Type 0} (xs : List A) (k : ℕ) (x : A) → k < length xs → reverse (take (k + 1) (set xs k x)) ≡ x ∷ reverse (take k xs)
@@ -42,66 +41,57 @@ enough m b =
     let h : m.horizon - 1 + 1 ≡ m.horizon = omega (arith, b.h_low) in
     omega (arith, e, ap (λ (x : ℕ). m.n * x) h, b.n_low)
 
-pub walk_start : (m : Meaning) (xs : List ℕ) (v : Node) (es : List Entry) → Bounds m → Driven m xs v → 0 < length es → Walk m xs (set es 0 v.entry) (set es 0 v.entry) 1 v
-walk_start m xs v es b d lt =
-    let t = trail_start m (node_of xs) d.latest d.pushed.count v d.pushed.state d.pushed.ended.0 d.pushed.ended.1 in
-    record {
-      latest = d.latest;
-      count = d.pushed.count;
-      state = d.pushed.state;
-      trail = subst (λ (rs : List Entry). Trail m (node_of xs) d.pushed.count v rs) (sym (reverse_put es 0 v.entry lt)) t;
-      some = omega arith;
-      few = omega (arith, t.known);
-      rest = refl;
-    }
-
-pub walk_more : (m : Meaning) (xs : List ℕ) (before after : List Entry) (k : ℕ) (v p : Node) → k < length after → Walk m xs before after k v → 0 < v.parent → p ≡ node_of xs v.parent → Walk m xs before (set after k p.entry) (k + 1) p
-walk_more m xs before after k v p lt w some is =
-    let q = node_of xs v.parent in
-    let t = trail_more m (node_of xs) w.latest w.count v (reverse (take k after)) w.state w.trail some in
-    let o = w.state.sound v.parent some w.trail.known in
-    subst (λ (x : Node). Walk m xs before (set after k x.entry) (k + 1) x) (sym is)
-    record {
-      latest = w.latest;
-      count = w.count;
-      state = w.state;
-      trail = subst (λ (rs : List Entry). Trail m (node_of xs) w.count q rs) (sym (reverse_put after k q.entry lt)) t;
-      some = omega arith;
-      few = omega (arith, w.few, o.earlier);
-      rest = drop_put after before k q.entry w.rest;
-    }
-
-pub walk_end : (m : Meaning) (xs : List ℕ) (before after : List Entry) (k : ℕ) (v : Node) (a : ℕ) → Bounds m → k < length after → Walk m xs before after k v → v.parent ≡ 0 → a ≡ origin m v.entry.how v.entry.activity → Gathered m before (set after k (start_entry a)) (k + 1)
-walk_end m xs before after k v a b lt w none is =
-    let o = origin m v.entry.how v.entry.activity in
-    let c = trail_end m (node_of xs) w.latest w.count v (reverse (take k after)) w.state (omega (arith, b.h_low)) w.trail none in
-    subst (λ (x : ℕ). Gathered m before (set after k (start_entry x)) (k + 1)) (sym is)
-    record {
-      chain = subst (λ (rs : List Entry). Chain m rs) (sym (reverse_put after k (start_entry o) lt)) c;
-      some = omega (arith, w.few, nodes_few m (node_of xs) w.latest w.count w.state, enough m b);
-      within = simp length-set (omega arith);
-      rest = drop_put after before k (start_entry o) w.rest;
-    }
-
-pub walk_room : (m : Meaning) (xs : List ℕ) (before after : List Entry) (k : ℕ) (v : Node) → Bounds m → Walk m xs before after k v → k + 1 ≤ entries_needed m
-walk_room m xs before after k v b w = omega (arith, w.few, nodes_few m (node_of xs) w.latest w.count w.state, enough m b)
-
-pub walk_node : (m : Meaning) (xs : List ℕ) (before after : List Entry) (k : ℕ) (v : Node) → words_needed m ≤ length xs → Walk m xs before after k v → 4 * v.parent + 3 < length xs
-walk_node m xs before after k v room w = omega (arith, w.trail.known, nodes_few m (node_of xs) w.latest w.count w.state)
-
--- the first write is past by then
-pub gathered_on : (m : Meaning) (before after : List Entry) (x : Entry) (k : ℕ) → 1 ≤ k → Gathered m (set before 0 x) after k → Gathered m before after k
-gathered_on m before after x k some g = record {
-  chain = g.chain;
-  some = g.some;
-  within = g.within;
-  rest = g.rest ∙ drop-set-lt k before 0 x (omega arith);
-}
-
 pub entries_fit : (m : Meaning) → Bounds m → entries_needed m ≤ 8193
 entries_fit m b =
     let p : m.n * m.horizon ≤ 64 * 128 = mul-le-mul b.n_high b.h_high in
     omega (arith, p)
+
+module _ (m : Meaning) (nd : ℕ → Node) (la : ℕ → ℕ) (c : ℕ) (b : Bounds m) (s : State m nd la c) where
+  room_for : (k p : ℕ) → k + p ≤ c + 1 → k + 1 ≤ entries_needed m
+  room_for k p few = omega (arith, nodes_few m nd la c s, enough m b)
+
+  pub walk_start : (v : Node) (es : List Entry) → Reaches m nd la v → entries_needed m ≤ length es → Walk m nd c es (set es 0 v.entry) 1 v
+  walk_start v es d long =
+      let t = trail_start m nd la c v s d.0 d.1 in
+      let few : 1 + v.parent ≤ c + 1 = omega (arith, t.known) in
+      let room = room_for 1 v.parent few in
+      record {
+        trail = subst (λ (rs : List Entry). Trail m nd c v rs) (sym (reverse_put es 0 v.entry (omega (arith, room)))) t;
+        some = omega arith;
+        few = few;
+        room = room;
+        small = omega (arith, room, entries_fit m b);
+        long = simp length-set long;
+        rest = drop-set-lt 1 es 0 v.entry (omega arith);
+      }
+
+  pub walk_more : (before after : List Entry) (k : ℕ) (v : Node) → Walk m nd c before after k v → 0 < v.parent → Walk m nd c before (set after k (nd v.parent).entry) (k + 1) (nd v.parent)
+  walk_more before after k v w some =
+      let p = nd v.parent in
+      let few : k + 1 + p.parent ≤ c + 1 = omega (arith, w.few, (s.sound v.parent some w.trail.known).earlier) in
+      let room = room_for (k + 1) p.parent few in
+      record {
+        trail = subst (λ (rs : List Entry). Trail m nd c p rs) (sym (reverse_put after k p.entry (omega (arith, w.room, w.long)))) (trail_more m nd la c v (reverse (take k after)) s w.trail some);
+        some = omega arith;
+        few = few;
+        room = room;
+        small = omega (arith, room, entries_fit m b);
+        long = simp length-set w.long;
+        rest = drop_put after before k p.entry w.rest;
+      }
+
+  pub walk_end : (before after : List Entry) (k : ℕ) (v : Node) (a : ℕ) → Walk m nd c before after k v → v.parent ≡ 0 → a ≡ origin m v.entry.how v.entry.activity
+      → Gathered m before (set after k (start_entry a)) (k + 1)
+  walk_end before after k v a w none is =
+      let o = origin m v.entry.how v.entry.activity in
+      rw is
+      record {
+        chain = subst (λ (rs : List Entry). Chain m rs) (sym (reverse_put after k (start_entry o) (omega (arith, w.room, w.long))))
+            (trail_end m nd la c v (reverse (take k after)) s (omega (arith, b.h_low)) w.trail none);
+        some = w.room;
+        within = simp length-set (omega (arith, w.room, w.long));
+        rest = drop_put after before k (start_entry o) w.rest;
+      }
 
 -- turned round, what was gathered is the chain
 pub explained : (m : Meaning) (before xs after : List Entry) (k : ℕ) → Gathered m before xs k → after ≡ reverse (take k xs) ++ drop k xs → Explained m before after k

@@ -1,8 +1,9 @@
 -- How the bounds are pushed up; callers need none of this. Each activity has a latest node, whose slot is
 -- the activity's bound: no list that meets the project starts the activity before it. Node 0 stands for
 -- slot 0 of any activity.
-use Rattle.std.specs.Prelude.{◌≡◌, ℕ, zero, suc, ◌+◌, ◌*◌, ◌<◌, ◌≤◌, cond, List, map, length, pos, ◌+ℤ◌, Some, None, Option, nat_lt, slice_index}
+use Rattle.std.specs.Prelude.{◌≡◌, ℕ, zero, suc, ◌+◌, ◌<◌, ◌≤◌, cond, List, map, pos, ◌+ℤ◌, Some, None, Option, nat_lt, slice_index}
 use Rattle.std.specs.List.{range_with_len}
+use Rattle.std.proofs.Props.{props}
 use Rattle.model.specs.declared.price.Price.{Price}
 use Rattle.model.specs.declared.price.Price.TheVariants.{Open, Closed}
 use Rattle.model.specs.Meaning.{Meaning}
@@ -12,8 +13,6 @@ use Rattle.earliest.specs.declared.chain.How.{How}
 use Rattle.earliest.specs.declared.chain.How.TheVariants.{Start, PastClosed, ByLag}
 use Rattle.earliest.specs.declared.nodes.Node.{Node}
 use Rattle.earliest.specs.Chain.{cut_to, Leads}
-use Rattle.earliest.specs.Outcome.{words_needed}
-use Rattle.earliest.specs.Nodes.{node_of}
 
 abbrev pub latest_of : List ℕ → ℕ → ℕ
 latest_of ls a = slice_index ls a
@@ -51,12 +50,6 @@ origin m Start a = a
 origin m (PastClosed h) a = a
 origin m (ByLag k) a = (m.lag k).from
 
--- the latest nodes stand in the words, and their slots are below the horizon
-pub record Ready (m : Meaning) (xs ls : List ℕ) : Type 0 where
-  pub all : m.n ≤ length ls
-  pub stand : (a : ℕ) → a < m.n → 4 * latest_of ls a + 3 < length xs
-  pub low : (a : ℕ) → a < m.n → bound (node_of xs) (latest_of ls) a < m.horizon
-
 -- a node v that pushes its activity up
 pub record Pushes (m : Meaning) (nd : ℕ → Node) (la : ℕ → ℕ) (v : Node) : Type 0 where
   pub real : v.entry.activity < m.n
@@ -91,27 +84,37 @@ pub record State (m : Meaning) (nd : ℕ → Node) (la : ℕ → ℕ) (c : ℕ) 
   pub sound : (e : ℕ) → 0 < e → e ≤ c → Sound m (bound nd la) e (nd e) (nd (nd e).parent)
   pub apart : (e f : ℕ) → 0 < e → e < f → f ≤ c → (nd e).entry.activity ≡ (nd f).entry.activity → (nd e).entry.slot.0 < (nd f).entry.slot.0
 
+Leads-prop : (m : Meaning) (how : How) (a t b u : ℕ) → IsProp (Leads m how a t b u)
+Leads-prop m Start a t b u = hlevel props
+Leads-prop m (PastClosed h) a t b u = hlevel props
+Leads-prop m (ByLag k) a t b u = hlevel props
+
+pub State-prop : (m : Meaning) (nd : ℕ → Node) (la : ℕ → ℕ) (c : ℕ) → IsProp (State m nd la c)
+State-prop m nd la c = hlevel (props, Leads-prop)
+
 -- nothing is left to push
 pub record Quiet (m : Meaning) (nd : ℕ → Node) (la : ℕ → ℕ) : Type 0 where
   pub all_open : (a : ℕ) → a < m.n → closed_step m nd la a ≡ None
   pub all_hold : (k : ℕ) → k < m.lags → lag_step m nd la k ≡ None
 
+-- a node that drives its activity to the horizon
+abbrev pub Reaches : Meaning → (ℕ → Node) → (ℕ → ℕ) → Node → Type 0
+Reaches m nd la v = Pushes m nd la v × (v.entry.slot.0 ≡ m.horizon)
+
 -- no push is left, or one reaches the horizon
 abbrev pub Ended : Meaning → (ℕ → Node) → (ℕ → ℕ) → Option Node → Type 0
 Ended m nd la None = Quiet m nd la
-Ended m nd la (Some v) = Pushes m nd la v × (v.entry.slot.0 ≡ m.horizon)
+Ended m nd la (Some v) = Reaches m nd la v
 
-pub record Pushed (m : Meaning) (nd : ℕ → Node) (la : ℕ → ℕ) (r : Option Node) : Type 0 where
-  pub count : ℕ
-  pub state : State m nd la count
-  pub ended : Ended m nd la r
+-- each node that a step finds pushes its activity up
+abbrev pub Steps : Meaning → (ℕ → Node) → (ℕ → ℕ) → Option Node → Type 0
+Steps m nd la s = (v : Node) → s ≡ Some v → Pushes m nd la v
 
--- words enough, none of them written, and every bound at slot 0
-pub record Fresh (m : Meaning) (xs ls : List ℕ) : Type 0 where
-  pub room : words_needed m ≤ length xs
-  pub all : m.n ≤ length ls
-  pub unwritten : (node_of xs 0).entry.slot.0 ≡ 0
-  pub none_yet : (a : ℕ) → a < m.n → latest_of ls a ≡ 0
+-- a step s was taken with the answer r: a list is primed after it
+pub record Taken (ns : List (List ℕ)) (ls : List ℕ) (c : ℕ) (ns' : List (List ℕ)) (ls' : List ℕ) (c' : ℕ) (s r : Option Node) : Type 0 where
+  pub onward : c ≤ c'
+  pub idle : c' ≡ c → (ns' ≡ ns) × (ls' ≡ ls)
+  pub none : r ≡ None → c' ≡ c → s ≡ None
 
 -- the bounds, activity by activity
 abbrev pub bounds : Meaning → (ℕ → Node) → (ℕ → ℕ) → List ℕ

@@ -21,6 +21,7 @@ impl How {
     pub fn code(self) -> u8
         ensures { result ≡ (as_numbers self).0 }
     {
+        // A case that carries a value has no number by `as`.
         match self {
             How::Start => 0,
             How::PastClosed(_) => 1,
@@ -34,7 +35,7 @@ impl How {
     {
         match self {
             How::Start => 0,
-            How::PastClosed(height) => height as u16,
+            How::PastClosed(height) => u16::from(height),
             How::ByLag(number) => number,
         }
     }

@@ -1,64 +1,54 @@
 // Nodes in lent words: an entry that some chain may have, and the node before it.
-ghost use Rattle.std.specs.Prelude.{◌≡◌, ◌+◌, ◌*◌, ◌<◌, length};
-ghost use Rattle.earliest.specs.Nodes.{how_of, node_of, Put};
+ghost use Rattle.std.specs.Prelude.{◌≡◌};
+ghost use Rattle.earliest.specs.Nodes.{of_words};
 
 use crate::chain::{Entry, How};
 use model::time::Slot;
 
-/// An entry, and the number of the node before it: 0 if that is the first entry of a chain.
+/// An entry, and the number of the node before it. Node 0 stands for slot 0 of any activity, where
+/// every chain begins.
 #[derive(Clone, Copy)]
 pub struct Node {
     pub entry: Entry,
+    // A number and no `Box`: nodes stand in lent words.
     pub parent: u32,
 }
 
-fn code_of(how: How) -> u32
-    ensures { how_of result ≡ how }
-{
-    match how {
-        How::Start => 0,
-        How::PastClosed(height) => height as u32 + 1,
-        How::ByLag(number) => number as u32 + 257,
+/// Activity, slot, how and parent, a word each: lent memory has words alone.
+impl From<Node> for [u32; 4] {
+    ghost from_gives = { λ node words. of_words words ≡ node };
+
+    fn from(node: Node) -> [u32; 4] {
+        let how = match node.entry.how {
+            How::Start => 0,
+            How::PastClosed(height) => u32::from(height) + 1,
+            How::ByLag(number) => u32::from(number) + 257,
+        };
+        [
+            u32::from(node.entry.activity),
+            u32::from(node.entry.slot.0),
+            how,
+            node.parent,
+        ]
     }
 }
 
-fn how_at(word: u32) -> How
-    ensures { result ≡ how_of word }
-{
-    if word == 0 {
-        How::Start
-    } else if word < 257 {
-        How::PastClosed((word - 1) as u8)
-    } else {
-        How::ByLag((word - 257).min(65_535) as u16)
-    }
-}
+/// What no node wrote is cut to what an entry can hold.
+impl From<[u32; 4]> for Node {
+    ghost from_gives = { λ words node. node ≡ of_words words };
 
-/// Node `e` of the words. What no node wrote is cut to what an entry can hold.
-pub fn node_at(words: &[u32], e: u32) -> Node
-    requires { 4 * e + 3 < length words.now }
-    ensures { result ≡ node_of words.now e }
-{
-    let at = 4 * e as usize;
-    let entry = Entry {
-        activity: words[at].min(65_535) as u16,
-        slot: Slot(words[at + 1].min(65_535) as u16),
-        how: how_at(words[at + 2]),
-    };
-    Node {
-        entry,
-        parent: words[at + 3],
+    fn from(words: [u32; 4]) -> Node {
+        let [activity, slot, how, parent] = words;
+        let how = match how {
+            0 => How::Start,
+            1..=256 => How::PastClosed((how - 1) as u8),
+            _ => How::ByLag(u16::try_from(how - 257).unwrap_or(u16::MAX)),
+        };
+        let entry = Entry {
+            activity: u16::try_from(activity).unwrap_or(u16::MAX),
+            slot: Slot(u16::try_from(slot).unwrap_or(u16::MAX)),
+            how,
+        };
+        Node { entry, parent }
     }
-}
-
-/// Writes node `e` into the words.
-pub fn put_node(words: &mut [u32], e: u32, node: Node)
-    requires { 4 * e + 3 < length words.old }
-    ensures { Put words.old words.new e node }
-{
-    let at = 4 * e as usize;
-    words[at] = node.entry.activity as u32;
-    words[at + 1] = node.entry.slot.0 as u32;
-    words[at + 2] = code_of(node.entry.how);
-    words[at + 3] = node.parent;
 }

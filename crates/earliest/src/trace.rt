@@ -1,11 +1,13 @@
 // Reading a chain out of the nodes: back from the horizon to slot 0, and then turned round.
-ghost use Rattle.std.specs.Prelude.{◌≡◌, ◌≤◌, ◌++◌, reverse, length as size, take, drop};
+ghost use Rattle.std.specs.Prelude.{◌≡◌, ◌≤◌, length as size};
+ghost use Rattle.earliest.specs.Nodes.{node_of};
 ghost use Rattle.earliest.specs.Outcome.{entries_needed, Explained};
-ghost use Rattle.earliest.specs.Pushing.{origin};
-ghost use Rattle.earliest.specs.Tracing.{Known, Driven, Gathered};
+ghost use Rattle.earliest.specs.Pushing.{origin, latest_of, Reaches};
+ghost use Rattle.earliest.specs.Tracing.{Known};
 
+use crate::bounds::Bounds;
 use crate::chain::{Entry, How};
-use crate::nodes::{Node, node_at};
+use crate::nodes::Node;
 use model::project::Project;
 use model::time::Slot;
 
@@ -14,55 +16,38 @@ fn origin_of<P: Project>(project: &P, entry: Entry) -> u16
     requires { Known (P.meaning project.now) entry.how }
     ensures { result ≡ origin (P.meaning project.now) entry.how entry.activity }
 {
-    match entry.how {
-        How::Start | How::PastClosed(_) => entry.activity,
-        How::ByLag(number) => match project.lag(number) {
-            Some(lag) => lag.from as u16,
-            None => entry.activity,
-        },
+    if let How::ByLag(number) = entry.how
+        && let Some(lag) = project.lag(number)
+    {
+        u16::from(lag.from)
+    } else {
+        entry.activity
     }
 }
 
-// Writes the chain that ends in `last`, last entry first, and says how long it is.
-fn gather<P: Project>(project: &P, words: &[u32], last: Node, chain: &mut [Entry]) -> usize
-    requires driven { Driven (P.meaning project.now) words.now last }
-    requires project_bound { entries_needed (P.meaning project.now) ≤ size chain.old }
-    ensures { Gathered (P.meaning project.now)
-        chain.old chain.new result }
-{
-    let mut node = last;
-    chain[0] = node.entry;
-    let mut length = 1;
-    while node.parent != 0 {
-        node = node_at(words, node.parent);
-        chain[length] = node.entry;
-        length += 1;
+impl<P: Project> Bounds<'_, P> {
+    /// Writes the chain that ends in `last` and says how long it is.
+    pub fn write_chain(&self, last: Node, chain: &mut [Entry]) -> u16
+        requires driven { Reaches (P.meaning self.now.project.now)
+            (node_of self.now.nodes.now) (latest_of self.now.latest) last }
+        requires room { entries_needed (P.meaning self.now.project.now) ≤ size chain.old }
+        ensures { Explained (P.meaning self.now.project.now) chain.old chain.new result }
+    {
+        // The entries are lent, so the length of the chain stands beside them.
+        let mut node = last;
+        chain[0] = node.entry;
+        let mut length = 1;
+        while node.parent != 0 {
+            node = self.node(node.parent);
+            chain[length] = node.entry;
+            length += 1;
+        }
+        chain[length] = Entry {
+            activity: origin_of(self.project, node.entry),
+            slot: Slot(0),
+            how: How::Start,
+        };
+        chain[..=length].reverse();
+        length as u16 + 1
     }
-    chain[length] = Entry {
-        activity: origin_of(project, node.entry),
-        slot: Slot(0),
-        how: How::Start,
-    };
-    length + 1
-}
-
-// Turns the first entries round.
-fn turn(chain: &mut [Entry], length: usize)
-    requires { length ≤ size chain.old }
-    ensures { chain.new
-        ≡ reverse (take length chain.old) ++ drop length chain.old }
-{
-    chain[0..length].reverse();
-}
-
-/// Writes the chain that ends in `last` and says how long it is.
-pub fn write_chain<P: Project>(project: &P, words: &[u32], last: Node, chain: &mut [Entry]) -> u16
-    requires driven { Driven (P.meaning project.now) words.now last }
-    requires project_bound { entries_needed (P.meaning project.now) ≤ size chain.old }
-    ensures { Explained (P.meaning project.now)
-        chain.old chain.new result }
-{
-    let length = gather(project, words, last, chain);
-    turn(chain, length);
-    length as u16
 }

@@ -1,21 +1,21 @@
 // A calendar: slots in which nothing may start.
-ghost use Rattle.std.specs.Prelude.{◌≡◌, false, slice_index_or};
+ghost use Rattle.std.specs.Prelude.{◌≡◌};
 ghost use Rattle.layers.specs.Layers.{shut_by};
 ghost use Rattle.layers.specs.Kept.{shut_keeps};
 ghost use Rattle.layers.specs.Terms.{settled, has_mark, all_open, marked};
 
-use crate::layered::Rule;
+use crate::layered::{Asked, Rule};
 use model::price::Price;
 use model::refusal::{Fault, Refusal};
 use model::time::Slot;
 
-const SLOTS: u16 = 128;
+const SLOTS: usize = 128;
 
 /// A mark for each of 128 slots: no activity may start in a shut one. Marks at or past the horizon
 /// have no effect.
 #[derive(Clone, Copy)]
 pub struct Calendar {
-    shut: [bool; 128],
+    shut: [bool; SLOTS],
 }
 
 impl Calendar {
@@ -23,7 +23,9 @@ impl Calendar {
     pub fn fresh() -> Calendar
         ensures { result.shut ≡ all_open }
     {
-        Calendar { shut: [false; 128] }
+        Calendar {
+            shut: [false; SLOTS],
+        }
     }
 
     /// Shuts a slot, or opens it again. A slot from 128 on is refused as a term out of range, with
@@ -32,22 +34,13 @@ impl Calendar {
         ensures answer { result ≡ settled (has_mark slot.0) slot.0 }
         ensures after { self.new.shut ≡ marked self.old.shut slot.0 shut }
     {
-        if slot.0 >= SLOTS {
+        // No `get_mut`: past its borrow a proof knows no element of the table.
+        let place = usize::from(slot.0);
+        if place >= SLOTS {
             return Err(Fault::Term.at(slot.0));
         }
-        self.shut[slot.0 as usize] = shut;
+        self.shut[place] = shut;
         Ok(())
-    }
-}
-
-// Slots past the table have no mark.
-fn mark_at(marks: &[bool], slot: Slot) -> bool
-    ensures { result ≡ slice_index_or marks.now slot.0 false }
-{
-    if (slot.0 as usize) < marks.len() {
-        marks[slot.0 as usize]
-    } else {
-        false
     }
 }
 
@@ -56,11 +49,13 @@ impl Rule for Calendar {
 
     ghost keeps = { λ x. shut_keeps x.shut };
 
-    fn reprice(&self, height: u8, activity: u16, slot: Slot, duration: u16, price: i32) -> Price {
-        if mark_at(&self.shut, slot) {
-            Price::Closed(height)
+    fn reprice(&self, asked: Asked) -> Price {
+        // A slot past the table has no mark.
+        let mark = self.shut.get(usize::from(asked.slot.0));
+        if mark.copied().unwrap_or(false) {
+            Price::Closed(asked.height)
         } else {
-            Price::Open(price)
+            Price::Open(asked.price)
         }
     }
 }

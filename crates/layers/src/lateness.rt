@@ -1,15 +1,15 @@
 // What it costs to end an activity late.
-ghost use Rattle.std.specs.Prelude.{◌≡◌, ◌+◌, ◌-◌, ◌*◌, ◌<◌, pos, ◌+ℤ◌};
-ghost use Rattle.layers.specs.Layers.{late_by, term_of, dearer, cut};
+ghost use Rattle.std.specs.Prelude.{◌≡◌};
+ghost use Rattle.layers.specs.Layers.{late_by, dearer};
 ghost use Rattle.layers.specs.Kept.{late_keeps};
 ghost use Rattle.layers.specs.Terms.{settled, term_fits, never_late, charged};
 
-use crate::layered::Rule;
+use crate::layered::{Asked, Rule};
 use model::price::Price;
 use model::refusal::{Fault, Refusal};
 use model::time::Slot;
 
-const ACTIVITIES: u16 = 64;
+const ACTIVITIES: usize = 64;
 
 const LATEST_DUE: u32 = 256;
 
@@ -26,12 +26,14 @@ pub struct Term {
     pub rate: u32,
 }
 
+const NO_TERM: Term = Term { due: 0, rate: 0 };
+
 /// A term for each of 64 activities. A start costs the rate more for each slot by which start and
 /// duration together pass the due slot; the price stays within ±1,000,000,000. Terms of activities
 /// that the project does not have are of no effect.
 #[derive(Clone, Copy)]
 pub struct Lateness {
-    terms: [Term; 64],
+    terms: [Term; ACTIVITIES],
 }
 
 impl Lateness {
@@ -40,7 +42,7 @@ impl Lateness {
         ensures { result.terms ≡ never_late }
     {
         Lateness {
-            terms: [Term { due: 0, rate: 0 }; 64],
+            terms: [NO_TERM; ACTIVITIES],
         }
     }
 
@@ -51,10 +53,12 @@ impl Lateness {
         ensures answer { result ≡ settled (term_fits activity due rate) activity }
         ensures after { self.new.terms ≡ charged self.old.terms activity due rate }
     {
-        if activity >= ACTIVITIES || due > LATEST_DUE || rate > HIGHEST_RATE {
+        // No `get_mut`: past its borrow a proof knows no element of the table.
+        let place = usize::from(activity);
+        if place >= ACTIVITIES || due > LATEST_DUE || rate > HIGHEST_RATE {
             return Err(Fault::Term.at(activity));
         }
-        self.terms[activity as usize] = Term {
+        self.terms[place] = Term {
             due: due as u16,
             rate,
         };
@@ -62,39 +66,14 @@ impl Lateness {
     }
 }
 
-// Activities past the table have no term.
-fn term_at(terms: &[Term], activity: u16) -> Term
-    ensures { result ≡ term_of terms.now activity }
-{
-    if (activity as usize) < terms.len() {
-        terms[activity as usize]
-    } else {
-        Term { due: 0, rate: 0 }
-    }
-}
-
-// Start and duration have 16 bits each, so `late` has 17 and the product 49.
-fn charge(rate: u32, late: u32) -> u64
-    requires { late < 131072 }
-    ensures is { result ≡ rate * late }
-    ensures small { result < 562949953421312 }
-{
-    rate as u64 * late as u64
-}
-
-fn cut_sum(price: i32, charge: u64) -> i32
-    requires { charge < 562949953421312 }
-    ensures { result ≡ cut (price +ℤ pos charge) }
-{
-    let sum = price as i64 + charge as i64;
-    sum.clamp(-HIGHEST_PRICE, HIGHEST_PRICE) as i32
-}
-
-fn with_lateness(price: i32, rate: u32, late: u32) -> i32
-    requires { late < 131072 }
+// The charge is below 2⁶⁴, and a sum that it takes past 2⁶³ is cut all the same.
+fn dearer(price: i32, rate: u32, late: u32) -> i32
     ensures { result ≡ dearer rate late price }
 {
-    cut_sum(price, charge(rate, late))
+    let charge = u64::from(rate) * u64::from(late);
+    i64::from(price)
+        .saturating_add_unsigned(charge)
+        .clamp(-HIGHEST_PRICE, HIGHEST_PRICE) as i32
 }
 
 impl Rule for Lateness {
@@ -102,9 +81,15 @@ impl Rule for Lateness {
 
     ghost keeps = { λ x. late_keeps x.terms };
 
-    fn reprice(&self, height: u8, activity: u16, slot: Slot, duration: u16, price: i32) -> Price {
-        let term = term_at(&self.terms, activity);
-        let late = (slot.0 as u32 + duration as u32).saturating_sub(term.due as u32);
-        Price::Open(with_lateness(price, term.rate, late))
+    fn reprice(&self, asked: Asked) -> Price {
+        // An activity past the table has no term.
+        let term = self
+            .terms
+            .get(usize::from(asked.activity))
+            .copied()
+            .unwrap_or(NO_TERM);
+        let end = u32::from(asked.slot.0) + u32::from(asked.duration);
+        let late = end.saturating_sub(u32::from(term.due));
+        Price::Open(dearer(asked.price, term.rate, late))
     }
 }

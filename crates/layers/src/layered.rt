@@ -1,13 +1,26 @@
 // The layer of any kind, written once: a rule for open slots, laid on a project.
 ghost use Rattle.std.specs.Prelude.{◌≡◌};
 ghost use Rattle.model.specs.Meaning.{Bounds};
-ghost use Rattle.layers.specs.Layers.{Repricing, Keeps, over, raised};
+ghost use Rattle.layers.specs.Layers.{Repricing, Keeps, over};
 ghost use Rattle.layers.specs.Kept.{over_kept};
 
 use model::lag::Lag;
 use model::price::Price;
 use model::project::Project;
 use model::time::Slot;
+
+/// An open slot that a rule is asked about.
+#[derive(Clone, Copy)]
+pub struct Asked {
+    /// Of the layer.
+    pub height: u8,
+    pub activity: u16,
+    pub slot: Slot,
+    /// Of the activity.
+    pub duration: u16,
+    /// Of the slot, below the layer.
+    pub price: i32,
+}
 
 /// What a layer does to a slot that is open below. It closes the slot at the layer's height, or
 /// gives it a price, and is asked about open slots only.
@@ -18,9 +31,10 @@ pub trait Rule {
     /// It keeps prices and heights within their bounds.
     ghost keeps: { (x : Self) → Keeps (repricing x) };
 
-    /// The price of an activity of this duration at a slot that costs `price` below.
-    fn reprice(&self, height: u8, activity: u16, slot: Slot, duration: u16, price: i32) -> Price
-        ensures { result ≡ repricing self.now height activity slot.0 duration price };
+    /// The price of the activity at the slot.
+    fn reprice(&self, asked: Asked) -> Price
+        ensures { result ≡ repricing self.now
+            asked.height asked.activity asked.slot.0 asked.duration asked.price };
 }
 
 /// A layer: a rule laid on a project. It is a project itself, so layers can be stacked. What the
@@ -29,12 +43,6 @@ pub trait Rule {
 pub struct Layered<P, R> {
     pub below: P,
     pub rule: R,
-}
-
-fn raise(height: u8) -> u8
-    ensures { result ≡ raised height }
-{
-    height.saturating_add(1)
 }
 
 impl<P: Project, R: Rule> Project for Layered<P, R> {
@@ -60,8 +68,13 @@ impl<P: Project, R: Rule> Project for Layered<P, R> {
         match self.below.price(activity, slot)? {
             Price::Closed(height) => Some(Price::Closed(height)),
             Price::Open(price) => Some(
-                self.rule
-                    .reprice(self.height(), activity, slot, duration, price),
+                self.rule.reprice(Asked {
+                    height: self.height(),
+                    activity,
+                    slot,
+                    duration,
+                    price,
+                }),
             ),
         }
     }
@@ -76,6 +89,6 @@ impl<P: Project, R: Rule> Project for Layered<P, R> {
 
     /// One more than the height below, or 255 on a height of 255.
     fn height(&self) -> u8 {
-        raise(self.below.height())
+        self.below.height().saturating_add(1)
     }
 }
