@@ -13,8 +13,7 @@ pub enum Way {
 }
 
 impl Way {
-    ghost use Rattle.flow.specs.Nets.{word};
-    ghost use Rattle.flow.specs.Passing.{turned_way, passes};
+    ghost use Rattle.flow.specs.Passing.{turned_way};
 
     /// The other way.
     pub fn turned(self) -> Way
@@ -25,29 +24,21 @@ impl Way {
             Way::Back => Way::Along,
         }
     }
-
-    /// Whether an arc can be passed this way.
-    pub fn passes<N: Network>(self, network: &N, flow: &[u64], k: usize) -> bool
-        ensures { k < (N.net network.now).arcs → result ≡ passes (N.net network.now) (word flow.now) self k }
-    {
-        match self {
-            Way::Along => room_on(network, flow, k),
-            Way::Back => word_at(flow, k) > 0,
-        }
-    }
 }
 
 /// A visit to a node: it is taken apart once, and asked about its arcs many times.
+#[derive(Drop)]
 pub struct Visit<'a, N: Network> {
-    network: &'a N,
-    node: usize,
+    pub network: &'a N,
+    pub node: usize,
     at: N::At,
     ghost inside: { node < (N.net network.now).nodes },
     ghost decoded: { at ≡ N.decoded network.now node },
 }
 
 impl<'a, N: Network> Visit<'a, N> {
-    ghost use Rattle.flow.specs.Passing.{near, far};
+    ghost use Rattle.flow.specs.Nets.{word};
+    ghost use Rattle.flow.specs.Passing.{near, far, passes};
     ghost use Rattle.flow.specs.Answers.{Asked};
 
     /// Begins a visit.
@@ -72,6 +63,17 @@ impl<'a, N: Network> Visit<'a, N> {
         match way {
             Way::Along => self.network.leaving(self.at, cursor),
             Way::Back => self.network.entering(self.at, cursor),
+        }
+    }
+
+    /// Whether an arc can be passed one way.
+    pub fn passes(&self, way: Way, flow: &[u64], k: usize) -> bool
+        ensures { k < (N.net self.now.network.now).arcs
+            → result ≡ passes (N.net self.now.network.now) (word flow.now) way k }
+    {
+        match way {
+            Way::Along => room_on(self.network, flow, k),
+            Way::Back => word_at(flow, k) > 0,
         }
     }
 }
