@@ -6,4 +6,3 @@ pub mod Turning
 pub mod Ways
 pub mod Searches
 pub mod Sames
-pub mod Asking

@@ -7,3 +7,4 @@ pub mod Ways
 pub mod Turning
 pub mod Searches
 pub mod Unhindering
+pub mod Passing

@@ -6,3 +6,4 @@ pub mod questions;
 pub mod theorems;
 pub mod turned;
 pub mod unhindered;
+pub mod visit;

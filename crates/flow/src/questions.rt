@@ -2,9 +2,9 @@
 // are nodes.
 ghost use Rattle.std.specs.Prelude.{◌≡◌, ℕ, ◌<◌};
 ghost use Rattle.flow.specs.Nets.{room, word};
-ghost use Rattle.flow.specs.Answers.{has_room, Looked, Asked};
+ghost use Rattle.flow.specs.Answers.{has_room, Looked};
 
-use crate::network::{Arc, Capacity, Network, Step};
+use crate::network::{Arc, Capacity, Network};
 
 /// Whether capacity is left beside a flow.
 pub fn has_room(capacity: Capacity, flow: u64) -> bool
@@ -20,7 +20,7 @@ pub fn has_room(capacity: Capacity, flow: u64) -> bool
 pub fn word_at(flow: &[u64], k: usize) -> u64
     ensures { result ≡ word flow.now k }
 {
-    if k < flow.len() { flow[k] } else { 0 }
+    flow.get(k).copied().unwrap_or(0)
 }
 
 /// An arc, with its ends known to be nodes.
@@ -32,33 +32,9 @@ pub fn look<N: Network>(network: &N, k: usize) -> Option<Arc>
 
 /// Whether capacity is left on an arc.
 pub fn room_on<N: Network>(network: &N, flow: &[u64], k: usize) -> bool
-    requires { k < (N.net network.now).arcs }
-    ensures { result ≡ room (N.net network.now) (word flow.now) k }
+    ensures { k < (N.net network.now).arcs → result ≡ room (N.net network.now) (word flow.now) k }
 {
-    match network.capacity(k) {
-        Some(capacity) => has_room(capacity, word_at(flow, k)),
-        None => false,
-    }
-}
-
-/// The next arc that leaves a node, with its other end known to be a node.
-pub fn next_leaving<N: Network>(network: &N, node: usize, at: N::At, cursor: usize) -> Option<Step>
-    requires inside { node < (N.net network.now).nodes }
-    requires decoded { at ≡ N.decoded network.now node }
-    ensures { Asked (N.net network.now) (N.net network.now).tail
-        (N.net network.now).head node cursor result }
-{
-    let _ = node;
-    network.leaving(at, cursor)
-}
-
-/// The next arc that enters a node, with its other end known to be a node.
-pub fn next_entering<N: Network>(network: &N, node: usize, at: N::At, cursor: usize) -> Option<Step>
-    requires inside { node < (N.net network.now).nodes }
-    requires decoded { at ≡ N.decoded network.now node }
-    ensures { Asked (N.net network.now) (N.net network.now).head
-        (N.net network.now).tail node cursor result }
-{
-    let _ = node;
-    network.entering(at, cursor)
+    network
+        .capacity(k)
+        .is_some_and(|capacity| has_room(capacity, word_at(flow, k)))
 }

@@ -22,14 +22,10 @@ pub fn renamed_node(v: usize) -> usize
 fn renamed_step(step: Option<Step>) -> Option<Step>
     ensures { result ≡ renamed step }
 {
-    match step {
-        Some(s) => Some(Step {
-            arc: s.arc,
-            node: renamed_node(s.node),
-            next: s.next,
-        }),
-        None => None,
-    }
+    step.map(|s| Step {
+        node: renamed_node(s.node),
+        ..s
+    })
 }
 
 impl<N: Network> Network for Turned<'_, N> {
@@ -59,14 +55,11 @@ impl<N: Network> Network for Turned<'_, N> {
     }
 
     fn arc(&self, k: usize) -> Option<Arc> {
-        match self.0.arc(k) {
-            Some(a) => Some(Arc {
-                tail: renamed_node(a.head),
-                head: renamed_node(a.tail),
-                capacity: a.capacity,
-            }),
-            None => None,
-        }
+        self.0.arc(k).map(|a| Arc {
+            tail: renamed_node(a.head),
+            head: renamed_node(a.tail),
+            ..a
+        })
     }
 
     fn capacity(&self, k: usize) -> Option<Capacity> {

@@ -17,6 +17,8 @@ fn without_bounded(capacity: Capacity) -> Capacity
     }
 }
 
+// Apart from `Turned`: one wrapper for both would need a trait of what becomes of nodes and capacities, with its
+// laws, and that is longer than the calls that are passed on in both.
 impl<N: Network> Network for UnboundedOnly<'_, N> {
     type At = N::At;
 
@@ -44,21 +46,14 @@ impl<N: Network> Network for UnboundedOnly<'_, N> {
     }
 
     fn arc(&self, k: usize) -> Option<Arc> {
-        match self.0.arc(k) {
-            Some(a) => Some(Arc {
-                tail: a.tail,
-                head: a.head,
-                capacity: without_bounded(a.capacity),
-            }),
-            None => None,
-        }
+        self.0.arc(k).map(|a| Arc {
+            capacity: without_bounded(a.capacity),
+            ..a
+        })
     }
 
     fn capacity(&self, k: usize) -> Option<Capacity> {
-        match self.0.capacity(k) {
-            Some(c) => Some(without_bounded(c)),
-            None => None,
-        }
+        self.0.capacity(k).map(without_bounded)
     }
 
     fn at(&self, v: usize) -> N::At {

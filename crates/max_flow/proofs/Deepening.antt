@@ -1,11 +1,12 @@
 -- What the search in depth keeps.
 use Rattle.std.proofs.Common.{ℕ, ◌<◌, ◌≤◌, List}
-use Rattle.flow.specs.Nets.{Net, IsFlow, NoneAbove, word}
-use Rattle.max_flow.specs.Stages.{WayIn}
+use Rattle.max_flow.specs.declared.nodes.Nodes.{Nodes}
+use Rattle.max_flow.specs.Layout.{net_of, Kept}
+use Rattle.max_flow.specs.Stages.{Raising, WayIn}
 
-pub record Deepening (n : Net) (started : ℕ) (flow ws : List ℕ) (value node : ℕ) : Type 0 where
-  pub is_flow : IsFlow n (word flow) value
-  pub none_above : NoneAbove n (word flow) value
+pub record Deepening {N : _} {A : _} {b : _} (started : ℕ) (s s' : Nodes N A b) (flow : List ℕ) (value node : ℕ) : Type 0 where
+  pub kept : Kept s s'
+  pub raising : Raising (net_of s') flow value
   pub more : started ≤ value
-  pub inside : node < n.nodes
-  pub way : WayIn n flow ws 0 node
+  pub inside : node < (net_of s').nodes
+  pub way : WayIn flow s' 0 node

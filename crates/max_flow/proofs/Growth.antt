@@ -1,180 +1,133 @@
 -- One node more found, in the node words.
-use Rattle.std.proofs.Common.{◌≡◌, ℕ, ◌+◌, ◌<◌, Bool, true, false, cond, eqb, List, length, get_or, set, sym, refl, ap, ◌∙◌, subst, inl, inr, ⊎_elim, arith, below_more}
-use Rattle.std.proofs.lemmas.List.{get_or-set_same, get_or-set_other, length-set}
-use Rattle.std.proofs.lemmas.Bool.{eqb-true, eqb-false, eq-eqb, cases_eq}
+use Rattle.std.proofs.Common.{◌≡◌, ℕ, ◌+◌, ◌<◌, ◌≤◌, eqb, ◌⊎◌, List, set, sym, refl, ap, ◌∙◌, subst, inl, inr, ⊎_elim, arith, below_more}
+use Rattle.std.proofs.lemmas.List.{get_or-set_same, get_or-set_other}
+use Rattle.std.proofs.lemmas.Bool.{eq-eqb, cases_eq}
 use Rattle.flow.specs.Sums.{pick}
-use Rattle.flow.specs.Nets.{Net, Bounds}
-use Rattle.flow.specs.Ways.{Put}
-use Rattle.flow.specs.Searches.{Opens, Shut, unranked}
+use Rattle.flow.specs.Nets.{Net, word}
+use Rattle.flow.specs.Searches.{Searching, Opens, Shut, unranked}
 use Rattle.flow.proofs.Sums.{sum_to_at}
 use Rattle.flow.proofs.Searches.{found}
-use Rattle.max_flow.specs.Layout.{Four, rank_in, link_in, queue_in, found_words, waiting_after}
+use Rattle.max_flow.specs.declared.nodes.Nodes.{Nodes}
+use Rattle.max_flow.specs.Layout.{net_of, rank_in, link_in, queue_in, FoundAt}
 use Rattle.max_flow.specs.Stages.{SearchingIn, Grown, Idle}
+use Rattle.max_flow.proofs.Keeping.{same_net, kept_more, put_set}
 
 -- a node without a rank counts
-pub unranked_some : (m : ℕ) (rank : ℕ → ℕ) (v : ℕ) → v < m → rank v ≡ 0 → 0 < unranked m rank
+unranked_some : (m : ℕ) (rank : ℕ → ℕ) (v : ℕ) → v < m → rank v ≡ 0 → 0 < unranked m rank
 unranked_some m rank v l e =
     let at = sum_to_at (λ y. pick (eqb (rank y) 0) 1) v m l in
     let one = ap (λ b. pick b 1) (eq-eqb (rank v) 0 e) in
     omega arith
 
-pub grown_none : (n : Net) (f : ℕ → ℕ) (ws : List ℕ) (waiting : ℕ) → Four n.nodes ws → SearchingIn n f ws waiting
-    → Grown n f ws ws waiting waiting
-grown_none n f ws waiting four s =
-    record { four = four; searching = s; ranked = λ v l h. h; more = omega arith; fewer = omega arith }
+pub grown_none : {N : _} {A : _} {b : _} (f : ℕ → ℕ) (s : Nodes N A b) (waiting : ℕ) → SearchingIn f s waiting
+    → Grown f s s waiting waiting
+grown_none f s waiting t = record {
+  kept = record { same_network = refl; same_ranks = refl };
+  searching = t;
+  ranked = λ v l h. h;
+  more = omega arith;
+  fewer = omega arith;
+}
 
-pub grown_more : {n : Net} {f : ℕ → ℕ} {ws ws' ws'' : List ℕ} {waiting waiting' waiting'' : ℕ} → Grown n f ws ws'
-    waiting waiting'
-    → Grown n f ws' ws'' waiting' waiting'' → Grown n f ws ws'' waiting waiting''
-grown_more a b =
+pub grown_more : {N : _} {A : _} {b : _} {f : ℕ → ℕ} {s s' s'' : Nodes N A b} {waiting waiting' waiting'' : ℕ}
+    → Grown f s s' waiting waiting' → Grown f s' s'' waiting' waiting'' → Grown f s s'' waiting waiting''
+grown_more p q =
+    let same = ap (λ (n : Net). n.nodes) (same_net p.kept) in
     record {
-      four = b.four;
-      searching = b.searching;
-      ranked = λ v l h. b.ranked v l (a.ranked v l h);
-      more = omega (arith, a.more, b.more);
-      fewer = omega (arith, a.fewer, b.fewer);
+      kept = kept_more p.kept q.kept;
+      searching = q.searching;
+      ranked = λ v l h. q.ranked v (omega arith) (p.ranked v l h);
+      more = omega (arith, p.more, q.more);
+      fewer = omega (arith, p.fewer, q.fewer);
     }
 
-module _ (n : Net) (bs : Bounds n) (f : ℕ → ℕ) (ws : List ℕ) (waiting u v k : ℕ) (four : Four n.nodes ws)
-    (s : SearchingIn n f ws waiting) (lu : u < n.nodes) (nu : u ≡ 1 → ⊥) (ru : 0 < rank_in ws u)
-    (lv : v < n.nodes) (new : rank_in ws v ≡ 0) (opens : Opens n f k u v) where
-  space : waiting < n.nodes
-  space = omega (arith, s.count, unranked_some n.nodes (rank_in ws) v lv new)
+-- room in the queue while a node has no rank
+pub find_space : {N : _} {A : _} {b : _} (f : ℕ → ℕ) (s : Nodes N A b) (waiting v : ℕ) → SearchingIn f s waiting
+    → v < (net_of s).nodes → rank_in s v ≡ 0 → waiting < (net_of s).nodes
+find_space f s waiting v t l e = omega (arith, t.count, unranked_some (net_of s).nodes (rank_in s) v l e)
 
-  sink_words : v ≡ 1 → Grown n f ws (set (set ws (n.nodes + v) k) v (n.nodes + 1)) waiting waiting
-  sink_words e =
-      let m = n.nodes in
-      let ws' : List ℕ = set (set ws (m + v) k) v (m + 1) in
-      let len : length (set ws (m + v) k) ≡ length ws = length-set ws (m + v) k in
-      let ranks : Put m (rank_in ws) (rank_in ws') v (m + 1) =
+module _ {N : _} {A : _} {b : _} (f : ℕ → ℕ) (s s' : Nodes N A b) (waiting waiting' u v k : ℕ)
+    (t : SearchingIn f s waiting) (lu : u < (net_of s).nodes) (nu : u ≡ 1 → ⊥) (ru : 0 < rank_in s u)
+    (lv : v < (net_of s).nodes) (new : rank_in s v ≡ 0) (opens : Opens (net_of s) f k u v)
+    (e : FoundAt s s' waiting v k waiting') where
+  -- with rank x
+  ranked : (x : ℕ) → s'.rank.now ≡ set s.rank.now v x → waiting < x → waiting ≤ waiting' → waiting' ≤ waiting + 1
+      → ((v ≡ 1 → ⊥) → x ≤ waiting')
+      → ((i : ℕ) → i < waiting' → ((i < waiting) × (queue_in s' i ≡ queue_in s i)) ⊎ ((queue_in s' i ≡ v) × (v ≡ 1 → ⊥)))
+      → Grown f s s' waiting waiting'
+  ranked x er low more most top queues =
+      let n = net_of s in
+      let ranks = put_set n.nodes s.rank.now s'.rank.now v x (omega arith) er in
+      let links = put_set n.nodes s.link.now s'.link.now v k (omega arith) e.links in
+      let y = found n (b.bounded s.network.now).sound f (rank_in s) (rank_in s') (link_in s) (link_in s')
+      (queue_in s) (queue_in s') waiting waiting' u v k x
+      t lu nu ru lv new opens ranks links low more most top queues in
+      let same = same_net e.kept in
+      let count = ap (λ (m : Net). unranked m.nodes (rank_in s')) same in
       record {
-        here = get_or-set_same (set ws (m + v) k) v (m + 1) 0 (omega arith);
-        there = λ j b ne. get_or-set_other (set ws (m + v) k) v j (m + 1) 0 ne ∙ get_or-set_other ws (m + v) j k 0
-            (omega arith);
-      } in
-      let links : Put m (link_in m ws) (link_in m ws') v k =
-      record {
-        here = get_or-set_other (set ws (m + v) k) v (m + v) (m + 1) 0 (omega arith) ∙ get_or-set_same ws (m + v) k
-            0 (omega arith);
-        there = λ j b ne. get_or-set_other (set ws (m + v) k) v (m + j) (m + 1) 0 (omega arith) ∙ get_or-set_other
-            ws (m + v) (m + j) k 0 (λ q. ne (omega arith));
-      } in
-      let queues : (i : ℕ) → queue_in m ws' i ≡ queue_in m ws i = λ i.
-      get_or-set_other (set ws (m + v) k) v (m + m + i) (m + 1) 0 (omega arith) ∙ get_or-set_other ws (m + v)
-      (m + m + i) k 0 (omega arith) in
-      let x = found n bs.sound f (rank_in ws) (rank_in ws') (link_in m ws) (link_in m ws') (queue_in m ws)
-      (queue_in m ws') waiting waiting u v k (m + 1)
-      s lu nu ru lv new opens ranks links (omega (arith, space)) (omega arith) (omega arith)
-      (λ ne. absurd (ne e)) (λ i l. inl (l, queues i)) in
-      record {
-        four = length-set (set ws (m + v) k) v (m + 1) ∙ (len ∙ four);
-        searching = x.0;
-        ranked = λ y b h. omega (arith, ranks.there y b (λ q. let z = ap (rank_in ws) q in omega arith));
-        more = omega arith;
-        fewer = omega (arith, x.1);
+        kept = e.kept;
+        searching = subst (λ (m : Net). Searching m f (rank_in s') (link_in s') (queue_in s') waiting') (sym same) y.0;
+        ranked = λ z l h. omega (arith, ranks.there z l (λ q. let o = ap (rank_in s) q in omega arith));
+        more = more;
+        fewer = omega (arith, y.1);
       }
 
-  node_words : (v ≡ 1 → ⊥)
-      → Grown n f ws (set (set (set ws (n.nodes + v) k) v (waiting + 1)) (n.nodes + n.nodes + waiting) v)
-      waiting (waiting + 1)
-  node_words e =
-      let m = n.nodes in
-      let a : List ℕ = set ws (m + v) k in
-      let b : List ℕ = set a v (waiting + 1) in
-      let ws' : List ℕ = set b (m + m + waiting) v in
-      let la : length a ≡ length ws = length-set ws (m + v) k in
-      let lb : length b ≡ length a = length-set a v (waiting + 1) in
-      let ranks : Put m (rank_in ws) (rank_in ws') v (waiting + 1) =
-      record {
-        here = get_or-set_other b (m + m + waiting) v v 0 (omega arith) ∙ get_or-set_same a v (waiting + 1) 0
-            (omega arith);
-        there = λ j c ne. get_or-set_other b (m + m + waiting) j v 0 (omega arith)
-            ∙ (get_or-set_other a v j (waiting + 1) 0 ne ∙ get_or-set_other ws (m + v) j k 0 (omega arith));
-      } in
-      let links : Put m (link_in m ws) (link_in m ws') v k =
-      record {
-        here = get_or-set_other b (m + m + waiting) (m + v) v 0 (omega arith)
-            ∙ (get_or-set_other a v (m + v) (waiting + 1) 0 (omega arith) ∙ get_or-set_same ws (m + v) k 0
-            (omega arith));
-        there = λ j c ne. get_or-set_other b (m + m + waiting) (m + j) v 0 (omega arith)
-            ∙ (get_or-set_other a v (m + j) (waiting + 1) 0 (omega arith) ∙ get_or-set_other ws (m + v) (m + j) k 0
-            (λ q. ne (omega arith)));
-      } in
-      let last : queue_in m ws' waiting ≡ v = get_or-set_same b (m + m + waiting) v 0 (omega (arith, space)) in
-      let queues : (i : ℕ) → i < waiting → queue_in m ws' i ≡ queue_in m ws i = λ i l.
-      get_or-set_other b (m + m + waiting) (m + m + i) v 0 (omega arith)
-      ∙ (get_or-set_other a v (m + m + i) (waiting + 1) 0 (omega arith) ∙ get_or-set_other ws (m + v)
-      (m + m + i) k 0 (omega arith)) in
-      let x = found n bs.sound f (rank_in ws) (rank_in ws') (link_in m ws) (link_in m ws') (queue_in m ws)
-      (queue_in m ws') waiting (waiting + 1) u v k (waiting + 1)
-      s lu nu ru lv new opens ranks links (omega arith) (omega arith) (omega arith) (λ ne. omega arith)
-      (λ i l. ⊎_elim (λ q. inr (ap (queue_in m ws') q ∙ last, e))
-      (λ ne. let h : i < waiting = omega arith in inl (h, queues i h)) (cases_eq i waiting)) in
-      record {
-        four = length-set b (m + m + waiting) v ∙ (lb ∙ (la ∙ four));
-        searching = x.0;
-        ranked = λ y c h. omega (arith, ranks.there y c (λ q. let z = ap (rank_in ws) q in omega arith));
-        more = omega arith;
-        fewer = omega (arith, x.1);
-      }
+  pub grown_one : Grown f s s' waiting waiting'
+  grown_one =
+      ⊎_elim
+      (λ one.
+      let w = e.sink one in
+      ranked ((net_of s).nodes + 1) w.0 (omega (arith, find_space f s waiting v t lv new)) (omega (arith, w.2))
+      (omega (arith, w.2)) (λ ne. absurd (ne one))
+      (λ i l. inl (omega (arith, w.2), ap (λ (y : List ℕ). word y i) w.1)))
+      (λ ne.
+      let w = e.node ne in
+      ranked (waiting + 1) w.0 (omega arith) (omega (arith, w.2)) (omega (arith, w.2)) (λ q. omega (arith, w.2))
+      (λ i l.
+      ⊎_elim
+      (λ q. inr (
+        ap (λ (y : List ℕ). word y i) w.1 ∙ (ap (λ (j : ℕ). word (set s.place.now waiting v) j) q
+            ∙ get_or-set_same s.place.now waiting v 0 (omega (arith, find_space f s waiting v t lv new))),
+        ne,
+      ))
+      (λ nw. inl (omega (arith, w.2), ap (λ (y : List ℕ). word y i) w.1 ∙ get_or-set_other s.place.now waiting i v 0 nw))
+      (cases_eq i waiting)))
+      (cases_eq v 1)
 
-  pub grown_one : Grown n f ws (found_words n.nodes waiting v k ws) waiting (waiting_after waiting v)
-  grown_one = go (eqb v 1) refl
-    where
-      go : (b : Bool) → eqb v 1 ≡ b
-          → Grown n f ws
-          (cond b (set (set ws (n.nodes + v) k) v (n.nodes + 1))
-          (set (set (set ws (n.nodes + v) k) v (waiting + 1)) (n.nodes + n.nodes + waiting) v))
-          waiting (cond b waiting (waiting + 1))
-      go true e = sink_words (eqb-true v 1 e)
-      go false e = node_words (eqb-false v 1 e)
-
--- the same as the code has it: after a search grew to ws, v is found from u over arc k
-pub grown_find : (n : Net) → Bounds n → (f : ℕ → ℕ) (ws₀ ws : List ℕ) (waiting₀ waiting u v k : ℕ)
-    → Grown n f ws₀ ws waiting₀ waiting → u < n.nodes → (u ≡ 1 → ⊥) → 0 < rank_in ws u
-    → v < n.nodes → rank_in ws v ≡ 0 → Opens n f k u v → (count : ℕ) (ws' : List ℕ) (after : ℕ) → count ≡ n.nodes
-    → ws' ≡ found_words count waiting v k ws → after ≡ waiting_after waiting v → Grown n f ws₀ ws' waiting₀ after
-grown_find n bs f ws₀ ws waiting₀ waiting u v k g lu nu ru lv new opens count ws' after ec ew ea =
-    let one = grown_one n bs f ws waiting u v k g.four g.searching lu nu ru lv new opens in
-    let words : ws' ≡ found_words n.nodes waiting v k ws = ew ∙ ap (λ m. found_words m waiting v k ws) ec in
+-- the same after a search that grew from s₀ to s, of the same network n
+pub grown_find : {N : _} {A : _} {b : _} (n : Net) (f : ℕ → ℕ) (s₀ s s' : Nodes N A b)
+    (waiting₀ waiting waiting' u v k : ℕ) → n ≡ net_of s₀ → Grown f s₀ s waiting₀ waiting → u < n.nodes → (u ≡ 1 → ⊥)
+    → 0 < rank_in s₀ u → v < n.nodes → rank_in s v ≡ 0 → Opens n f k u v → FoundAt s s' waiting v k waiting'
+    → Grown f s₀ s' waiting₀ waiting'
+grown_find n f s₀ s s' waiting₀ waiting waiting' u v k en g lu nu ru lv new opens e =
+    let same : n ≡ net_of s = en ∙ sym (same_net g.kept) in
+    let m = ap (λ (y : Net). y.nodes) same in
+    let m₀ = ap (λ (y : Net). y.nodes) en in
     grown_more g
-    (subst (λ (x : List ℕ). Grown n f ws x waiting after) (sym words)
-    (subst (λ (x : ℕ). Grown n f ws (found_words n.nodes waiting v k ws) waiting x) (sym ea) one))
-
--- what `find` asks
-pub find_space : (n : Net) (f : ℕ → ℕ) (ws₀ ws : List ℕ) (waiting₀ waiting v : ℕ) → Grown n f ws₀ ws waiting₀ waiting
-    → v < n.nodes → rank_in ws v ≡ 0 → waiting < n.nodes
-find_space n f ws₀ ws waiting₀ waiting v g l e =
-    omega (arith, g.searching.count, unranked_some n.nodes (rank_in ws) v l e)
+    (grown_one f s s' waiting waiting' u v k g.searching (omega arith) nu (g.ranked u (omega arith) ru) (omega arith)
+    new (subst (λ (y : Net). Opens y f k u v) same opens) e)
 
 -- a find shows in the words: one more waits, or the sink has a rank
-pub find_shows : (ws : List ℕ) (waiting v k : ℕ) (count : ℕ) (ws' : List ℕ) (after : ℕ) → Four count ws → v < count
-    → ws' ≡ found_words count waiting v k ws → after ≡ waiting_after waiting v → after ≡ waiting → rank_in ws' 1
-    ≡ 0 → ⊥
-find_shows ws waiting v k count ws' after four l ew ea same none = go (eqb v 1) refl
-  where
-    go : (b : Bool) → eqb v 1 ≡ b → ⊥
-    go true e =
-        let one : v ≡ 1 = eqb-true v 1 e in
-        let words : ws' ≡ set (set ws (count + v) k) v (count + 1) =
-        ew ∙ ap (λ t. cond t (set (set ws (count + v) k) v (count + 1))
-        (set (set (set ws (count + v) k) v (waiting + 1)) (count + count + waiting) v)) e in
-        let at = ap (λ (y : List ℕ). get_or y v 0) words ∙ get_or-set_same (set ws (count + v) k) v (count + 1) 0
-        (omega (arith, length-set ws (count + v) k)) in
-        let here = ap (λ y. get_or ws' y 0) one in
-        omega arith
-    go false e =
-        let more = ea ∙ ap (λ t. cond t waiting (waiting + 1)) e in
-        omega arith
+pub find_shows : {N : _} {A : _} {b : _} (s s' : Nodes N A b) (waiting v k waiting' : ℕ) → v < (net_of s).nodes
+    → FoundAt s s' waiting v k waiting' → waiting' ≡ waiting → rank_in s' 1 ≡ 0 → ⊥
+find_shows s s' waiting v k waiting' l e same none =
+    ⊎_elim
+    (λ one.
+    let w = (e.sink one).0 in
+    let at = ap (λ (y : List ℕ). word y v) w ∙ get_or-set_same s.rank.now v ((net_of s).nodes + 1) 0 (omega arith) in
+    let here = ap (rank_in s') one in
+    omega arith)
+    (λ ne. omega (arith, (e.node ne).2))
+    (cases_eq v 1)
 
 -- one arc more over which nothing is found
-pub idle_more : (n : Net) (f : ℕ → ℕ) (ws₀ ws ws' : List ℕ) (waiting₀ waiting waiting' k : ℕ) → Grown n f ws₀ ws
-    waiting₀ waiting
-    → Idle n f ws waiting₀ waiting k → Grown n f ws ws' waiting waiting'
-    → (waiting' ≡ waiting → rank_in ws' 1 ≡ 0 → (ws' ≡ ws) × Shut n f (rank_in ws) k) → Idle n f ws' waiting₀
-    waiting' (k + 1)
-idle_more n f ws₀ ws ws' waiting₀ waiting waiting' k a idle b one same none =
+pub idle_more : {N : _} {A : _} {b : _} (f : ℕ → ℕ) (s₀ s s' : Nodes N A b) (waiting₀ waiting waiting' k : ℕ)
+    → Grown f s₀ s waiting₀ waiting → Idle f s waiting₀ waiting k → Grown f s s' waiting waiting'
+    → (waiting' ≡ waiting → rank_in s' 1 ≡ 0 → (s'.rank.now ≡ s.rank.now) × Shut (net_of s) f (rank_in s) k)
+    → Idle f s' waiting₀ waiting' (k + 1)
+idle_more f s₀ s s' waiting₀ waiting waiting' k a idle b one same none =
     let x = one (omega (arith, a.more, b.more)) none in
-    let before = ap (λ (y : List ℕ). rank_in y 1) x.0 in
-    subst (λ (y : List ℕ). (j : ℕ) → j < k + 1 → Shut n f (rank_in y) j) (sym x.0)
-    (below_more _ k (idle (omega (arith, a.more, b.more)) (omega arith)) x.1)
+    let before = ap (λ (y : List ℕ). word y 1) x.0 in
+    subst (λ (n : Net). (j : ℕ) → j < k + 1 → Shut n f (rank_in s') j) (sym (same_net b.kept))
+    (subst (λ (y : List ℕ). (j : ℕ) → j < k + 1 → Shut (net_of s) f (word y) j) (sym x.0)
+    (below_more _ k (idle (omega (arith, a.more, b.more)) (omega arith)) x.1))

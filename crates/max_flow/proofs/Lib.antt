@@ -1,3 +1,5 @@
+pub mod Keeping
+pub mod Passing
 pub mod Growth
 pub mod Walks
 pub mod Laying

@@ -1,18 +1,35 @@
 -- From the last search to the marks.
-use Rattle.std.proofs.Common.{◌≡◌, ℕ, ◌*◌, ◌<◌, ◌≤◌, min, Bool, true, false, cond, eqb, ltb, List, ◌++◌, length, get_or, take, drop, replicate, Ok, Err, sym, refl, ap, ◌∙◌, subst, inl, inr, ⊎_elim, arith}
+use Rattle.std.proofs.Common.{◌≡◌, ℕ, ◌*◌, ◌<◌, ◌≤◌, min, Bool, true, false, cond, eqb, ltb, List, ◌++◌, length, get_or, take, drop, replicate, Some, None, Option, sym, refl, ap, ◌∙◌, subst, inl, inr, ⊎_elim, arith}
+use Rattle.std.specs.Option.{ok_or}
 use Rattle.std.proofs.lemmas.List.{get_or_append_left, drop_at, take-append-drop}
 use Rattle.std.proofs.lemmas.Bool.{ltb-true, ltb-false, lt-ltb, le-ltb, eq-eqb, ne_eqb, both_ways, cases_Bool}
-use Rattle.flow.specs.Nets.{Net, Bounds, IsFlow, Unhindered, word}
-use Rattle.flow.specs.Cuts.{Finite, FiniteCut, Marks, across}
+use Rattle.flow.specs.Nets.{Net, Bounds, IsFlow, word}
+use Rattle.flow.specs.Cuts.{FiniteCut, Marks, across}
 use Rattle.flow.proofs.Duals.{marks_cut, no_flow_exceeds_a_cut, unhindered_inside}
 use Rattle.flow.proofs.Searches.{ranked_marks}
 use Rattle.flow.proofs.Sames.{flow_same, none_above_same, reached_same, finite_cut_same, across_same}
-use Rattle.max_flow.specs.Layout.{Four, rank_in}
-use Rattle.max_flow.specs.Stages.{Climbed}
+use Rattle.max_flow.specs.Layout.{net_of, rank_in, link_in}
+use Rattle.max_flow.specs.declared.nodes.Nodes.{Nodes}
+use Rattle.max_flow.specs.Stages.{Reaches, Climbed}
+use Rattle.flow.specs.Searches.{Searched}
 use Rattle.model.specs.declared.refusal.Refusal.{Refusal}
 use Rattle.model.specs.declared.refusal.Fault.TheVariants.{Unbounded}
 use Rattle.model.specs.Refusals.{refuse}
-use Rattle.max_flow.specs.Outcome.{IsMark, marked, Maximum, Outcome}
+use Rattle.max_flow.specs.Outcome.{IsMark, marked, Maximum, Solved, Outcome}
+
+-- ranks that were lent to a search
+pub reaches_in : {N : _} {A : _} {b : _} {n : Net} {ranks : List ℕ} {found : Bool} (s : Nodes N A b) → net_of s ≡ n
+    → Searched (net_of s) (λ k. 0) (rank_in s) (link_in s) → found ≡ ltb 0 (rank_in s 1) → ranks ≡ s.rank.now
+    → Reaches n ranks found
+reaches_in {n = n} {ranks = ranks} s en t e er =
+    record {
+      searched = (
+        link_in s,
+        subst (λ (y : List ℕ). Searched n (λ k. 0) (word y) (link_in s)) (sym er)
+            (subst (λ (m : Net). Searched m (λ k. 0) (rank_in s) (link_in s)) en t),
+      );
+      sink = e ∙ ap (λ (y : List ℕ). ltb 0 (word y 1)) (sym er);
+    }
 
 -- a mark is 1 exactly at a rank
 mark_test : (r x : ℕ) → x ≡ min r 1 → eqb x 1 ≡ ltb 0 r
@@ -22,55 +39,58 @@ mark_test r x e = go (ltb 0 r) refl
     go true h = eq-eqb x 1 (let l = ltb-true 0 r h in omega arith)
     go false h = ne_eqb x 1 (λ q. let l = ltb-false 0 r h in omega arith)
 
-pub maximum : (n : Net) → Bounds n → (flow ws ws' : List ℕ) (w count : ℕ) → count ≡ n.nodes → Four n.nodes
-    ws → Finite n
-    → Climbed n flow ws w
+-- from the ranks in the first part of the words, to the marks
+pub maximum : (n : Net) → Bounds n → (flow ranks ws ws' : List ℕ) (w count : ℕ) → count ≡ n.nodes → length ws ≡ 4 * n.nodes
+    → Climbed n flow ranks w → ((v : ℕ) → v < n.nodes → word ws v ≡ word ranks v)
     → ((i : ℕ) → i < length ws → get_or ws' i 0 ≡ cond (ltb i count) (min (get_or ws i 0) 1) 0)
     → Maximum n flow ws' w
-maximum n b flow ws ws' w count ec four (S, fin) c words =
+maximum n b flow ranks ws ws' w count ec four c first words =
     record {
-      is_flow = c.is_flow;
+      is_flow = c.raising.is_flow;
       no_flow_has_more = most;
-      no_word_above_the_value = c.none_above;
+      no_word_above_the_value = c.raising.none_above;
       marks = mark;
       rest_zero = λ i l h. words i (omega arith) ∙ ap (λ t. cond t (min (get_or ws i 0) 1) 0)
           (le-ltb i count (omega arith));
-      marks_cut = finite_cut_same n b.sound (λ v. ltb 0 (rank_in ws v)) (marked ws') same cut.0;
-      cut_has_the_value = across_same n b.sound (λ v. ltb 0 (rank_in ws v)) (marked ws') same n.capacity
+      marks_cut = finite_cut_same n b.sound (λ v. ltb 0 (word ranks v)) (marked ws') same cut.0;
+      cut_has_the_value = across_same n b.sound (λ v. ltb 0 (word ranks v)) (marked ws') same n.capacity
           ∙ cut.1;
-      hindered = λ u. both_ways (S 1) fin.lacks_sink (unhindered_inside S fin u);
+      hindered = λ u. both_ways (c.raising.finite.0 1) c.raising.finite.1.lacks_sink
+          (unhindered_inside c.raising.finite.0 c.raising.finite.1 u);
     }
   where
-    here : (v : ℕ) → v < n.nodes → word ws' v ≡ min (rank_in ws v) 1
-    here v l = words v (omega arith) ∙ ap (λ t. cond t (min (get_or ws v 0) 1) 0) (lt-ltb v count (omega arith))
+    here : (v : ℕ) → v < n.nodes → word ws' v ≡ min (word ranks v) 1
+    here v l =
+        words v (omega arith)
+        ∙ (ap (λ t. cond t (min (get_or ws v 0) 1) 0) (lt-ltb v count (omega arith)) ∙ ap (λ x. min x 1) (first v l))
 
-    known : Marks n (word flow) (λ v. ltb 0 (rank_in ws v))
-    known = ranked_marks c.searched c.sink
+    known : Marks n (word flow) (λ v. ltb 0 (word ranks v))
+    known = ranked_marks c.searched.1 c.sink
 
-    cut : FiniteCut n (λ v. ltb 0 (rank_in ws v)) × (across n (λ v. ltb 0 (rank_in ws v)) n.capacity ≡ w)
-    cut = marks_cut n b.sound (word flow) w c.is_flow (λ v. ltb 0 (rank_in ws v)) known
+    cut : FiniteCut n (λ v. ltb 0 (word ranks v)) × (across n (λ v. ltb 0 (word ranks v)) n.capacity ≡ w)
+    cut = marks_cut n b.sound (word flow) w c.raising.is_flow (λ v. ltb 0 (word ranks v)) known
         (le-ltb 0 _ (omega (arith, c.sink)))
 
     most : (g : ℕ → ℕ) (x : ℕ) → IsFlow n g x → x ≤ w
-    most g x i = omega (arith, no_flow_exceeds_a_cut n b.sound g x i (λ v. ltb 0 (rank_in ws v)) cut.0, cut.1)
+    most g x i = omega (arith, no_flow_exceeds_a_cut n b.sound g x i (λ v. ltb 0 (word ranks v)) cut.0, cut.1)
 
-    same : (v : ℕ) → v < n.nodes → marked ws' v ≡ ltb 0 (rank_in ws v)
-    same v l = mark_test (rank_in ws v) (word ws' v) (here v l)
+    same : (v : ℕ) → v < n.nodes → marked ws' v ≡ ltb 0 (word ranks v)
+    same v l = mark_test (word ranks v) (word ws' v) (here v l)
 
     mark : (v : ℕ) → v < n.nodes → IsMark n (word flow) v (word ws' v)
     mark v l =
         ⊎_elim
-        (λ t. inl (let r = ltb-true 0 (rank_in ws v) t in omega (arith, here v l), known.marked v l t))
+        (λ t. inl (let r = ltb-true 0 (word ranks v) t in omega (arith, here v l), known.marked v l t))
         (λ t. inr (
-          let r = ltb-false 0 (rank_in ws v) t in omega (arith, here v l),
+          let r = ltb-false 0 (word ranks v) t in omega (arith, here v l),
           λ q. both_ways _ t
               (known.reached v q),
         ))
-        (cases_Bool (ltb 0 (rank_in ws v)))
+        (cases_Bool (ltb 0 (word ranks v)))
 
 -- the same with further words behind
 pub maximum_in : (n : Net) → Bounds n → (flow nodes flow_past nodes_past : List ℕ) (w : ℕ) → length flow ≡ n.arcs
-    → Four n.nodes nodes → Maximum n flow nodes w → Maximum n (flow ++ flow_past) (nodes ++ nodes_past) w
+    → length nodes ≡ 4 * n.nodes → Maximum n flow nodes w → Maximum n (flow ++ flow_past) (nodes ++ nodes_past) w
 maximum_in n b flow nodes flow_past nodes_past w len four m =
     record {
       is_flow = flow_same n (word flow) (word (flow ++ flow_past)) flows w m.is_flow;
@@ -107,9 +127,10 @@ maximum_in n b flow nodes flow_past nodes_past w len four m =
 module _ (n : Net) (bs : Bounds n) (flow flow₁ nodes nodes₁ : List ℕ) (a b : ℕ) (ea : a ≡ n.arcs)
     (eb : b ≡ 4 * n.nodes)
     (la : n.arcs ≤ length flow) (lb : 4 * n.nodes ≤ length nodes) where
-  pub outcome_some : (w : ℕ) → length flow₁ ≡ a → length nodes₁ ≡ b → Maximum n flow₁ nodes₁ w
-      → Outcome n flow (flow₁ ++ drop a flow) nodes (nodes₁ ++ drop b nodes) (Ok w)
-  outcome_some w lf ln m =
+  pub outcome_of : (r : Option ℕ) (e : Refusal) → length flow₁ ≡ a → length nodes₁ ≡ b → e ≡ refuse Unbounded 0
+      → Solved n (take a flow) flow₁ nodes₁ r
+      → Outcome n flow (flow₁ ++ drop a flow) nodes (nodes₁ ++ drop b nodes) (ok_or r e)
+  outcome_of (Some w) e lf ln q m =
       record {
         few_flow_words = λ l. absurd (omega arith);
         few_node_words = λ l h. absurd (omega arith);
@@ -119,11 +140,7 @@ module _ (n : Net) (bs : Bounds n) (flow flow₁ nodes nodes₁ : List ℕ) (a b
           drop_at nodes₁ (drop b nodes) (4 * n.nodes) (omega arith) ∙ ap (λ x. drop x nodes) eb,
         );
       }
-
-  pub outcome_none : (e : Refusal) → e ≡ refuse Unbounded 0 → Unhindered n 1 → flow₁ ≡ take a flow → nodes₁
-      ≡ replicate (4 * n.nodes) 0
-      → Outcome n flow (flow₁ ++ drop a flow) nodes (nodes₁ ++ drop b nodes) (Err e)
-  outcome_none e q u ef en =
+  outcome_of None e lf ln q (u, ef, en) =
       record {
         few_flow_words = λ l. absurd (omega arith);
         few_node_words = λ l h. absurd (omega arith);

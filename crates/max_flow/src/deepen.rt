@@ -1,14 +1,12 @@
 // Deepening: after a search, more ways are looked for in depth, from the sink back over arcs that come from
 // nodes of smaller rank. Each node keeps its place among its arcs, so that no arc is tried twice.
-ghost use Rattle.std.specs.Prelude.{◌≡◌, ℕ, ◌+◌, ◌<◌, ◌≤◌, length, ◌≢◌};
-ghost use Rattle.flow.specs.Nets.{Net, IsFlow, NoneAbove, word};
-ghost use Rattle.flow.specs.Cuts.{Finite};
-ghost use Rattle.max_flow.specs.Layout.{Four, rank_in, link_in, SameBelow};
-ghost use Rattle.max_flow.specs.Stages.{WayIn, Stepped, Tried, Hits};
+ghost use Rattle.std.specs.Prelude.{◌≡◌, ℕ, ◌+◌, ◌<◌, ◌≤◌, ◌≢◌};
+ghost use Rattle.max_flow.specs.Layout.{net_of, Kept};
+ghost use Rattle.max_flow.specs.Stages.{Raising, WayIn, Stepped, Tried, Hits};
 
-use crate::augment::{augment, other_end};
+use crate::nodes::Nodes;
 use flow::network::Network;
-use flow::questions::{look, next_entering, next_leaving, room_on, word_at};
+use flow::visit::{Visit, Way};
 
 /// An arc that leads to a node, the node that it comes from, its own cursor and the next.
 #[derive(Clone, Copy)]
@@ -19,193 +17,113 @@ pub struct Hit {
     pub next: usize,
 }
 
-/// The first arc from a cursor on that enters a node with capacity left, from a node of smaller rank.
-fn entering_with_room<N: Network>(
-    network: &N,
-    flow: &[u64],
-    nodes: &[u32],
-    node: usize,
-    cursor: usize,
-) -> Option<Hit>
-    requires four { Four (N.net network.now).nodes nodes.now }
-    requires inside { node < (N.net network.now).nodes }
-    requires low { cursor < 2147483648 }
-    ensures { Hits (N.net network.now) flow.now nodes.now node result }
-{
-    let at = network.at(node);
-    let rank = nodes[node];
-    let mut cursor = cursor;
-    while let Some(step) = next_entering(network, node, at, cursor) {
-        let from = nodes[step.node];
-        if from > 0 && from < rank && room_on(network, flow, step.arc) {
-            return Some(Hit {
-                arc: step.arc,
-                node: step.node,
-                cursor,
-                next: step.next,
-            });
+impl<N: Network> Nodes<'_, N> {
+    /// The first arc from a cursor on over which a node is come to one way, from a node of smaller rank.
+    fn hit(&self, flow: &[u64], node: usize, way: Way, cursor: usize) -> Option<Hit>
+        requires inside { node < (net_of self.now).nodes }
+        requires low { cursor < 2147483648 }
+        ensures { Hits flow.now self.now node result }
+    {
+        let visit = Visit::new(self.network, node);
+        let rank = self.rank[node];
+        let mut cursor = cursor;
+        while let Some(step) = visit.next(way.turned(), cursor) {
+            let from = self.rank[step.node];
+            if from > 0 && from < rank && visit.passes(way, flow, step.arc) {
+                return Some(Hit {
+                    arc: step.arc,
+                    node: step.node,
+                    cursor,
+                    next: step.next,
+                });
+            }
+            cursor = step.next;
         }
-        cursor = step.next;
+        None
     }
-    None
-}
 
-/// The first arc from a cursor on that leaves a node with flow, to a node of smaller rank.
-fn leaving_with_flow<N: Network>(
-    network: &N,
-    flow: &[u64],
-    nodes: &[u32],
-    node: usize,
-    cursor: usize,
-) -> Option<Hit>
-    requires four { Four (N.net network.now).nodes nodes.now }
-    requires inside { node < (N.net network.now).nodes }
-    requires low { cursor < 2147483648 }
-    ensures { Hits (N.net network.now) flow.now nodes.now node result }
-{
-    let at = network.at(node);
-    let rank = nodes[node];
-    let mut cursor = cursor;
-    while let Some(step) = next_leaving(network, node, at, cursor) {
-        let from = nodes[step.node];
-        if from > 0 && from < rank && word_at(flow, step.arc) > 0 {
-            return Some(Hit {
-                arc: step.arc,
-                node: step.node,
-                cursor,
-                next: step.next,
-            });
+    /// Tries to go down from a node, over an arc that is passed one way.
+    fn descend(&mut self, flow: &[u64], node: usize, way: Way) -> Option<usize>
+        requires inside { node < (net_of self.old).nodes }
+        requires way { WayIn flow.now self.old 0 node }
+        ensures kept { Kept self.old self.new }
+        ensures tried { Tried flow.now self.new node result }
+    {
+        let hit = self.hit(flow, node, way, self.place[node] as usize / 2)?;
+        let place = (2 * hit.cursor) as u32;
+        match way {
+            Way::Along => {
+                self.place[node] = place;
+                self.far[node] = self.far[node].max(hit.next as u32);
+            }
+            Way::Back => self.place[node] = place + 1,
         }
-        cursor = step.next;
+        self.link[hit.node] = hit.arc as u32;
+        Some(hit.node)
     }
-    None
-}
 
-/// Tries to go down from a node over an arc that enters it; once there is none, its place moves on to the
-/// arcs that leave it. A place is twice a cursor, and one more past the entering arcs.
-fn descend_over<N: Network>(
-    network: &N,
-    flow: &[u64],
-    nodes: &mut [u32],
-    node: usize,
-) -> Option<usize>
-    requires four { Four (N.net network.now).nodes nodes.old }
-    requires inside { node < (N.net network.now).nodes }
-    requires way { WayIn (N.net network.now) flow.now nodes.old 0 node }
-    ensures { Tried (N.net network.now) flow.now nodes.new node result }
-{
-    let count = network.node_count();
-    let here = count + count + node;
-    let place = nodes[here];
-    if place % 2 == 1 {
-        return None;
+    /// Goes back from a node that leads nowhere to the node that its way goes on to; it has no rank from now on.
+    fn retreat(&mut self, flow: &[u64], node: usize) -> usize
+        requires inside { node < (net_of self.old).nodes }
+        requires passed { node ≢ 1 }
+        requires way { WayIn flow.now self.old 0 node }
+        ensures kept { Kept self.old self.new }
+        ensures inside { result < (net_of self.new).nodes }
+        ensures way { WayIn flow.now self.new 0 result }
+    {
+        let _ = flow;
+        let link = self.link_from(node);
+        self.rank[node] = 0;
+        link.node
     }
-    let Some(hit) = entering_with_room(network, flow, nodes, node, place as usize / 2) else {
-        nodes[here] = 1;
-        return None;
-    };
-    let far = count + count + count + node;
-    nodes[here] = (2 * hit.cursor) as u32;
-    nodes[far] = nodes[far].max(hit.next as u32);
-    nodes[count + hit.node] = hit.arc as u32;
-    Some(hit.node)
-}
 
-/// Tries to go down from a node backwards over an arc that leaves it.
-fn descend_against<N: Network>(
-    network: &N,
-    flow: &[u64],
-    nodes: &mut [u32],
-    node: usize,
-) -> Option<usize>
-    requires four { Four (N.net network.now).nodes nodes.old }
-    requires inside { node < (N.net network.now).nodes }
-    requires way { WayIn (N.net network.now) flow.now nodes.old 0 node }
-    ensures { Tried (N.net network.now) flow.now nodes.new node result }
-{
-    let count = network.node_count();
-    let here = count + count + node;
-    let Some(hit) = leaving_with_flow(network, flow, nodes, node, nodes[here] as usize / 2) else {
-        return None;
-    };
-    nodes[here] = (2 * hit.cursor) as u32 + 1;
-    nodes[count + hit.node] = hit.arc as u32;
-    Some(hit.node)
-}
-
-/// Goes back from a node that leads nowhere to the node that its way goes on to; it has no rank from now on.
-fn retreat<N: Network>(network: &N, flow: &[u64], nodes: &mut [u32], node: usize) -> usize
-    requires four { Four (N.net network.now).nodes nodes.old }
-    requires inside { node < (N.net network.now).nodes }
-    requires passed { node ≢ 1 }
-    requires way { WayIn (N.net network.now) flow.now nodes.old 0 node }
-    ensures inside { result < (N.net network.now).nodes }
-    ensures way { WayIn (N.net network.now) flow.now nodes.new 0 result }
-{
-    let _ = flow;
-    let k = nodes[network.node_count() + node] as usize;
-    let Some(arc) = look(network, k) else {
-        unreachable();
-    };
-    nodes[node] = 0;
-    other_end(arc, node)
-}
-
-/// One step of the search in depth, down or back; none when the sink leads nowhere.
-fn step<N: Network>(network: &N, flow: &[u64], nodes: &mut [u32], node: usize) -> Option<usize>
-    requires four { Four (N.net network.now).nodes nodes.old }
-    requires inside { node < (N.net network.now).nodes }
-    requires way { WayIn (N.net network.now) flow.now nodes.old 0 node }
-    ensures { Stepped (N.net network.now) flow.now nodes.new result }
-{
-    if let Some(from) = descend_over(network, flow, nodes, node) {
-        return Some(from);
+    /// One step of the search in depth, down or back; none when the sink leads nowhere. A node's place is twice a
+    /// cursor among the arcs that enter it, and once none of them leads on, twice a cursor among those that leave it
+    /// and one more.
+    fn step(&mut self, flow: &[u64], node: usize) -> Option<usize>
+        requires inside { node < (net_of self.old).nodes }
+        requires way { WayIn flow.now self.old 0 node }
+        ensures kept { Kept self.old self.new }
+        ensures stepped { Stepped flow.now self.new result }
+    {
+        if self.place[node] % 2 == 0 {
+            if let Some(from) = self.descend(flow, node, Way::Along) {
+                return Some(from);
+            }
+            self.place[node] = 1;
+        }
+        if let Some(from) = self.descend(flow, node, Way::Back) {
+            return Some(from);
+        }
+        if node == 1 {
+            return None;
+        }
+        Some(self.retreat(flow, node))
     }
-    if let Some(from) = descend_against(network, flow, nodes, node) {
-        return Some(from);
-    }
-    if node == 1 {
-        return None;
-    }
-    Some(retreat(network, flow, nodes, node))
-}
 
-/// Every node's place at its first arc.
-fn first_places(nodes: &mut [u32], count: usize)
-    requires { Four count nodes.old }
-{
-    for v in 0..count {
-        nodes[count + count + v] = 0;
-    }
-}
-
-/// Looks for ways in depth and augments along each, until the sink leads nowhere; the value then.
-pub fn deepen<N: Network>(network: &N, flow: &mut [u64], nodes: &mut [u32], value: u64) -> u64
-    requires flows { length flow.old ≡ (N.net network.now).arcs }
-    requires four { Four (N.net network.now).nodes nodes.old }
-    requires finite { Finite (N.net network.now) }
-    requires flow { IsFlow (N.net network.now) (word flow.old) value }
-    requires small { NoneAbove (N.net network.now) (word flow.old) value }
-    ensures more { value ≤ result }
-    ensures flow { IsFlow (N.net network.now) (word flow.new) result }
-    ensures small { NoneAbove (N.net network.now) (word flow.new) result }
-{
-    first_places(nodes, network.node_count());
-    let mut value = value;
-    let mut node = 1;
-    for _ in 0..most_steps(network) {
-        if node == 0 {
-            let done = augment(network, flow, nodes, value);
-            value = done.value;
-            node = done.stop;
-        } else {
-            match step(network, flow, nodes, node) {
-                Some(next) => node = next,
-                None => break,
+    /// Looks for ways in depth and augments along each, until the sink leads nowhere; the value then.
+    pub fn deepen(&mut self, flow: &mut [u64], value: u64) -> u64
+        requires raising { Raising (net_of self.old) flow.old value }
+        ensures kept { Kept self.old self.new }
+        ensures more { value ≤ result }
+        ensures raising { Raising (net_of self.new) flow.new result }
+    {
+        self.place.fill(0);
+        let mut value = value;
+        let mut node = 1;
+        for _ in 0..most_steps(self.network) {
+            if node == 0 {
+                let done = self.augment(flow, value);
+                value = done.value;
+                node = done.stop;
+            } else if let Some(next) = self.step(flow, node) {
+                node = next;
+            } else {
+                break;
             }
         }
+        value
     }
-    value
 }
 
 /// More steps than a search in depth takes: each way has fewer nodes than there are, and each way but the

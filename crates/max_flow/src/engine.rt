@@ -1,88 +1,114 @@
 // The driver: searches and augmentations until the sink is not found, then the marks.
-ghost use Rattle.std.specs.Prelude.{◌≡◌, ℕ, ◌+◌, ◌*◌, ◌<◌, ◌≤◌, min, length, replicate, if◌then◌else◌, nat_lt, slice_index};
-ghost use Rattle.flow.specs.Nets.{Net, word};
+ghost use Rattle.std.specs.Prelude.{◌≡◌, ℕ, ◌+◌, ◌*◌, ◌<◌, ◌≤◌, min, length, if◌then◌else◌, nat_lt, slice_index};
+ghost use Rattle.flow.specs.Nets.{Net};
 ghost use Rattle.flow.specs.Cuts.{Finite};
-ghost use Rattle.max_flow.specs.Layout.{Four};
-ghost use Rattle.max_flow.specs.Stages.{Climbed};
+ghost use Rattle.max_flow.specs.Layout.{Parts, net_of, Kept};
+ghost use Rattle.max_flow.specs.Stages.{Raising, Reaches, Climbed};
 ghost use Rattle.max_flow.specs.Outcome.{Solved, Outcome};
 
-use crate::augment::{augment, lay_way};
-use crate::deepen::deepen;
-use crate::rounds::{Start, quick_rounds, start_of};
-use crate::search::search;
+use crate::nodes::Nodes;
+use crate::start::Start;
 use flow::network::Network;
 use flow::unhindered::UnboundedOnly;
 use model::refusal::{Fault, Refusal};
 
-/// All node words 0.
-fn clear(nodes: &mut [u32])
-    ensures { nodes.new ≡ replicate (length nodes.old) 0 }
-{
-    for word in nodes.iter_mut() {
-        *word = 0;
-    }
-}
-
-/// No flow on any arc.
-fn drain(flow: &mut [u64])
-    ensures { (k : ℕ) → word flow.new k ≡ 0 }
-{
-    for carried in flow.iter_mut() {
-        *carried = 0;
-    }
-}
-
-/// The mark of a node by its rank; 0 for a word of another part.
-fn mark_of(rank: u32, node: bool) -> u32
-    ensures { result ≡ (if node then min rank 1 else 0) }
-{
-    if node { rank.min(1) } else { 0 }
-}
-
 /// Marks the ranked among the first nodes with 1, and leaves 0 everywhere else.
 fn mark(nodes: &mut [u32], count: usize)
+    requires { count ≤ length nodes.old }
     ensures { (i : ℕ) → i < length nodes.old
         → slice_index nodes.new i ≡ (if nat_lt i count then min (slice_index nodes.old i) 1 else 0) }
 {
-    for i in 0..nodes.len() {
-        nodes[i] = mark_of(nodes[i], i < count);
+    let (ranks, rest) = nodes.split_at_mut(count);
+    for rank in ranks.iter_mut() {
+        *rank = (*rank).min(1);
+    }
+    rest.fill(0);
+}
+
+impl<N: Network> Nodes<'_, N> {
+    /// Raises a flow from none until the sink is not found; its value. Quick rounds do nearly all of it, and the
+    /// whole search shows that nothing is left to do.
+    fn climb(&mut self, start: &Start, flow: &mut [u64]) -> u64
+        requires raising { Raising (net_of self.old) flow.old 0 }
+        ensures kept { Kept self.old self.new }
+        ensures climbed { Climbed (net_of self.new) flow.new self.new.rank.now result }
+    {
+        let mut value = self.quick_rounds(start, flow, 0);
+        while self.search(flow) {
+            self.lay_way(flow);
+            value = self.augment(flow, value).value;
+            value = self.deepen(flow, value);
+        }
+        value
     }
 }
 
-/// Raises a flow from none until the sink is not found; its value. Quick rounds do nearly all of it, and the
-/// whole search shows that nothing is left to do.
-fn climb<N: Network>(network: &N, start: &Start, flow: &mut [u64], nodes: &mut [u32]) -> u64
-    requires flows { length flow.old ≡ (N.net network.now).arcs }
-    requires four { Four (N.net network.now).nodes nodes.old }
-    requires finite { Finite (N.net network.now) }
-    requires empty { (k : ℕ) → word flow.old k ≡ 0 }
-    ensures { Climbed (N.net network.now) flow.new nodes.new result }
+/// Searches a network without flow; whether the sink is found. Here and in `raise` the parts come one by one: what
+/// a struct lends is followed back to parameters alone.
+fn search_in<N: Network>(
+    network: &N,
+    rank: &mut [u32],
+    link: &mut [u32],
+    place: &mut [u32],
+    far: &mut [u32],
+) -> bool
+    requires { Parts (N.net network.now).nodes rank.old link.old place.old far.old }
+    ensures { Reaches (N.net network.now) rank.new result }
 {
-    let mut value = quick_rounds(network, start, flow, nodes, 0);
-    while search(network, flow, nodes) {
-        lay_way(network, flow, nodes);
-        value = augment(network, flow, nodes, value).value;
-        value = deepen(network, flow, nodes, value);
-    }
-    value
+    let mut nodes = Nodes {
+        network,
+        rank,
+        link,
+        place,
+        far,
+    };
+    nodes.search(&[])
+}
+
+/// Raises a flow from none until the sink is not found; its value.
+fn raise<N: Network>(
+    network: &N,
+    flow: &mut [u64],
+    rank: &mut [u32],
+    link: &mut [u32],
+    place: &mut [u32],
+    far: &mut [u32],
+) -> u64
+    requires flows { length flow.old ≡ (N.net network.now).arcs }
+    requires parts { Parts (N.net network.now).nodes rank.old link.old place.old far.old }
+    requires finite { Finite (N.net network.now) }
+    ensures { Climbed (N.net network.now) flow.new rank.new result }
+{
+    let mut nodes = Nodes {
+        network,
+        rank,
+        link,
+        place,
+        far,
+    };
+    let start = nodes.start();
+    flow.fill(0);
+    nodes.climb(&start, flow)
 }
 
 /// The maximum flow in words that are just enough; none where unbounded arcs alone lead to the sink.
 fn solve<N: Network>(network: &N, flow: &mut [u64], nodes: &mut [u32]) -> Option<u64>
     requires flows { length flow.old ≡ (N.net network.now).arcs }
-    requires four { Four (N.net network.now).nodes nodes.old }
+    requires four { length nodes.old ≡ 4 * (N.net network.now).nodes }
     ensures { Solved (N.net network.now) flow.old flow.new
         nodes.new result }
 {
-    clear(nodes);
-    if search(&UnboundedOnly(network), &[], nodes) {
-        clear(nodes);
+    let count = network.node_count();
+    nodes.fill(0);
+    let (rank, rest) = nodes.split_at_mut(count);
+    let (link, rest) = rest.split_at_mut(count);
+    let (place, far) = rest.split_at_mut(count);
+    if search_in(&UnboundedOnly(network), rank, link, place, far) {
+        nodes.fill(0);
         return None;
     }
-    let start = start_of(network, nodes);
-    drain(flow);
-    let value = climb(network, &start, flow, nodes);
-    mark(nodes, network.node_count());
+    let value = raise(network, flow, rank, link, place, far);
+    mark(nodes, count);
     Some(value)
 }
 
@@ -110,8 +136,5 @@ pub fn max_flow<N: Network>(
     if nodes.len() < words {
         return Err(Fault::NodeWords.at(words as u16));
     }
-    match solve(network, &mut flow[0..arcs], &mut nodes[0..words]) {
-        Some(value) => Ok(value),
-        None => Err(Fault::Unbounded.at(0)),
-    }
+    solve(network, &mut flow[..arcs], &mut nodes[..words]).ok_or(Fault::Unbounded.at(0))
 }

@@ -18,7 +18,7 @@
 //
 //     part     in a search                         in depth
 //     rank     place in the order of finding + 1   the same; 0 also for a node that leads nowhere
-//     arc      the arc by which it was found       the arc by which its way goes on to the sink
+//     link     the arc by which it was found       the arc by which its way goes on to the sink
 //     place    the queue of the nodes found        twice the cursor among its arcs, + 1 past the entering
 //     far      entering arcs at cursors from here on carry no flow: they are not asked for backwards
 //
@@ -27,5 +27,7 @@
 mod augment;
 mod deepen;
 pub mod engine;
+mod nodes;
 mod rounds;
 mod search;
+mod start;

@@ -4,201 +4,119 @@
 //
 // Nodes that unbounded arcs alone lead to are reached whatever the flow is. They keep the ranks of the first
 // search for good, and of them only those are asked again from which some arc leads to other nodes.
-ghost use Rattle.std.specs.Prelude.{◌≡◌, ℕ, ◌+◌, ◌<◌, ◌≤◌, length};
-ghost use Rattle.flow.specs.Nets.{Net, IsFlow, NoneAbove, word};
-ghost use Rattle.flow.specs.Cuts.{Finite};
-ghost use Rattle.max_flow.specs.Layout.{Four};
+ghost use Rattle.std.specs.Prelude.{◌≡◌, ◌<◌, ◌≤◌};
+ghost use Rattle.max_flow.specs.Layout.{net_of, Kept};
+ghost use Rattle.max_flow.specs.Stages.{Raising};
 
-use crate::deepen::deepen;
+use crate::nodes::Nodes;
+use crate::start::Start;
 use flow::network::Network;
-use flow::questions::{next_entering, next_leaving, room_on, word_at};
+use flow::visit::{Visit, Way};
 
 /// More rounds than there are in practice; the whole search goes on where they end.
 const MOST_ROUNDS: usize = 100_000;
 
-/// What each round begins with.
-#[derive(Clone, Copy)]
-pub struct Start {
-    /// The ranks of the nodes that are always reached; 0 for the others.
-    ranks: [u32; 10_000],
-    /// Those of them from which an arc leads to another node.
-    roots: [u32; 10_000],
-    /// How many such roots there are.
-    count: usize,
-}
-
-/// Whether an arc leaves a node for a node without a rank.
-fn leads_on<N: Network>(network: &N, nodes: &[u32], node: usize) -> bool
-    requires four { Four (N.net network.now).nodes nodes.now }
-    requires inside { node < (N.net network.now).nodes }
-{
-    let at = network.at(node);
-    let mut cursor = 0;
-    while let Some(step) = next_leaving(network, node, at, cursor) {
-        if nodes[step.node] == 0 {
-            return true;
+impl<N: Network> Nodes<'_, N> {
+    /// Whether an arc leaves a node for a node without a rank.
+    fn leads_on(&self, node: usize) -> bool
+        requires { node < (net_of self.now).nodes }
+    {
+        let visit = Visit::new(self.network, node);
+        let mut cursor = 0;
+        while let Some(step) = visit.next(Way::Along, cursor) {
+            if self.rank[step.node] == 0 {
+                return true;
+            }
+            cursor = step.next;
         }
-        cursor = step.next;
+        false
     }
-    false
-}
 
-/// The start, read off the ranks that a search over unbounded arcs alone has left.
-pub fn start_of<N: Network>(network: &N, nodes: &[u32]) -> Start
-    requires { Four (N.net network.now).nodes nodes.now }
-{
-    let mut start = Start {
-        ranks: [0; 10_000],
-        roots: [0; 10_000],
-        count: 0,
-    };
-    for v in 0..network.node_count() {
-        start.ranks[v] = nodes[v];
-        if nodes[v] > 0 && leads_on(network, nodes, v) && start.count < 10_000 {
-            start.roots[start.count] = v as u32;
-            start.count += 1;
+    /// The start, read off the ranks that a search over unbounded arcs alone has left.
+    pub fn start(&self) -> Start {
+        let mut start = Start::new(self.rank);
+        for (v, rank) in self.rank.iter().enumerate() {
+            if *rank > 0 && self.leads_on(v) {
+                start.add_root(v as u32);
+            }
         }
+        start
     }
-    start
-}
 
-/// Gives a node the next rank and puts it at the end of the queue; how many wait then. The sink gets the
-/// last of all ranks and does not wait.
-fn rank_node(nodes: &mut [u32], count: usize, waiting: usize, v: usize) -> usize
-    requires four { Four count nodes.old }
-    requires small { count ≤ 10000 }
-    requires inside { v < count }
-    ensures { result ≤ waiting + 1 }
-{
-    if v == 1 || waiting >= count {
-        nodes[v] = u32::MAX;
-        return waiting;
-    }
-    nodes[v] = (count + waiting) as u32 + 1;
-    nodes[count + count + waiting] = v as u32;
-    waiting + 1
-}
-
-/// Ranks the nodes that are reached over the arcs that leave a node; how many wait then.
-fn rank_along<N: Network>(
-    network: &N,
-    flow: &[u64],
-    nodes: &mut [u32],
-    node: usize,
-    at: N::At,
-    waiting: usize,
-) -> usize
-    requires four { Four (N.net network.now).nodes nodes.old }
-    requires inside { node < (N.net network.now).nodes }
-    requires decoded { at ≡ N.decoded network.now node }
-{
-    let count = network.node_count();
-    let mut waiting = waiting;
-    let mut cursor = 0;
-    while let Some(step) = next_leaving(network, node, at, cursor) {
-        if nodes[step.node] == 0 && room_on(network, flow, step.arc) {
-            waiting = rank_node(nodes, count, waiting, step.node);
+    /// Gives a node the next rank and puts it at the end of the queue; how many wait then. The sink gets the
+    /// last of all ranks and does not wait.
+    fn rank_node(&mut self, waiting: usize, v: usize) -> usize
+        requires { v < (net_of self.old).nodes }
+        ensures { Kept self.old self.new }
+    {
+        if v == 1 || waiting >= self.place.len() {
+            self.rank[v] = u32::MAX;
+            return waiting;
         }
-        cursor = step.next;
+        self.rank[v] = (self.network.node_count() + waiting) as u32 + 1;
+        self.place[waiting] = v as u32;
+        waiting + 1
     }
-    waiting
-}
 
-/// Ranks the nodes that are reached backwards over the arcs that enter a node with flow, which lie before its
-/// far cursor; how many wait then.
-fn rank_back<N: Network>(
-    network: &N,
-    flow: &[u64],
-    nodes: &mut [u32],
-    node: usize,
-    at: N::At,
-    waiting: usize,
-) -> usize
-    requires four { Four (N.net network.now).nodes nodes.old }
-    requires inside { node < (N.net network.now).nodes }
-    requires decoded { at ≡ N.decoded network.now node }
-{
-    let count = network.node_count();
-    let far = nodes[count + count + count + node] as usize;
-    let mut waiting = waiting;
-    let mut cursor = 0;
-    while cursor < far {
-        let Some(step) = next_entering(network, node, at, cursor) else {
-            break;
-        };
-        if nodes[step.node] == 0 && word_at(flow, step.arc) > 0 {
-            waiting = rank_node(nodes, count, waiting, step.node);
+    /// Ranks the nodes that are reached over the arcs that lead on from a node, one way; how many wait then.
+    fn rank_on(&mut self, flow: &[u64], visit: &Visit<N>, way: Way, waiting: usize) -> usize
+        requires { visit.now.network ≡ self.old.network }
+        ensures { Kept self.old self.new }
+    {
+        let end = self.cursor_end(visit.node, way);
+        let mut waiting = waiting;
+        let mut cursor = 0;
+        while cursor < end
+            && let Some(step) = visit.next(way, cursor)
+        {
+            if self.rank[step.node] == 0 && visit.passes(way, flow, step.arc) {
+                waiting = self.rank_node(waiting, step.node);
+            }
+            cursor = step.next;
         }
-        cursor = step.next;
+        waiting
     }
-    waiting
-}
 
-/// The ranks that a round begins with.
-fn take_ranks(nodes: &mut [u32], count: usize, start: &Start)
-    requires four { Four count nodes.old }
-    requires small { count ≤ 10000 }
-{
-    nodes[0..count].copy_from_slice(&start.ranks[0..count]);
-}
-
-/// The queue that a round begins with; how many wait in it.
-fn take_roots(nodes: &mut [u32], count: usize, start: &Start) -> usize
-    requires four { Four count nodes.old }
-    requires small { count ≤ 10000 }
-{
-    let roots = start.count.min(count);
-    let queue = count + count;
-    nodes[queue..queue + roots].copy_from_slice(&start.roots[0..roots]);
-    roots
-}
-
-/// Ranks nodes in the order in which they are reached from the roots, until the sink is among them; whether
-/// it is.
-fn rank_anew<N: Network>(network: &N, start: &Start, flow: &[u64], nodes: &mut [u32]) -> bool
-    requires { Four (N.net network.now).nodes nodes.old }
-{
-    let count = network.node_count();
-    take_ranks(nodes, count, start);
-    let mut waiting = take_roots(nodes, count, start);
-    for done in 0..count {
-        let node = nodes[count + count + done] as usize;
-        if done >= waiting || nodes[1] > 0 || node >= count {
-            break;
+    /// Ranks nodes in the order in which they are reached from the roots, until the sink is among them; whether
+    /// it is.
+    fn rank_anew(&mut self, start: &Start, flow: &[u64]) -> bool
+        ensures { Kept self.old self.new }
+    {
+        let count = self.network.node_count();
+        self.rank.copy_from_slice(start.ranks(count));
+        let roots = start.roots(count);
+        self.place[..roots.len()].copy_from_slice(roots);
+        let mut waiting = roots.len();
+        // A queue: it grows while it is read, so no iterator runs over it.
+        for done in 0..count {
+            let node = self.place[done] as usize;
+            if done >= waiting || self.rank[1] > 0 || node >= count {
+                break;
+            }
+            let visit = Visit::new(self.network, node);
+            waiting = self.rank_on(flow, &visit, Way::Along, waiting);
+            waiting = self.rank_on(flow, &visit, Way::Back, waiting);
         }
-        let at = network.at(node);
-        waiting = rank_along(network, flow, nodes, node, at, waiting);
-        waiting = rank_back(network, flow, nodes, node, at, waiting);
+        self.rank[1] > 0
     }
-    nodes[1] > 0
-}
 
-/// Raises a flow round by round, until the sink is not reached or no way is found; its value then.
-pub fn quick_rounds<N: Network>(
-    network: &N,
-    start: &Start,
-    flow: &mut [u64],
-    nodes: &mut [u32],
-    value: u64,
-) -> u64
-    requires flows { length flow.old ≡ (N.net network.now).arcs }
-    requires four { Four (N.net network.now).nodes nodes.old }
-    requires finite { Finite (N.net network.now) }
-    requires flow { IsFlow (N.net network.now) (word flow.old) value }
-    requires small { NoneAbove (N.net network.now) (word flow.old) value }
-    ensures flow { IsFlow (N.net network.now) (word flow.new) result }
-    ensures small { NoneAbove (N.net network.now) (word flow.new) result }
-{
-    let mut value = value;
-    for _ in 0..MOST_ROUNDS {
-        if !rank_anew(network, start, flow, nodes) {
-            break;
+    /// Raises a flow round by round, until the sink is not reached or no way is found; its value then.
+    pub fn quick_rounds(&mut self, start: &Start, flow: &mut [u64], value: u64) -> u64
+        requires raising { Raising (net_of self.old) flow.old value }
+        ensures kept { Kept self.old self.new }
+        ensures raising { Raising (net_of self.new) flow.new result }
+    {
+        let mut value = value;
+        for _ in 0..MOST_ROUNDS {
+            if !self.rank_anew(start, flow) {
+                break;
+            }
+            let raised = self.deepen(flow, value);
+            if raised == value {
+                break;
+            }
+            value = raised;
         }
-        let raised = deepen(network, flow, nodes, value);
-        if raised == value {
-            break;
-        }
-        value = raised;
+        value
     }
-    value
 }

@@ -1,22 +1,14 @@
-use Rattle.std.proofs.Common.{arith}
-use Rattle.max_flow.proofs.Marking.{outcome_some, outcome_none}
+use Rattle.std.proofs.Common.{ℕ, sym, subst, arith}
+use Rattle.std.proofs.lemmas.List.{length-take}
+use Rattle.max_flow.specs.Outcome.{Outcome}
+use Rattle.max_flow.proofs.Marking.{outcome_of}
 use Rattle.max_flow.proofs.engine.max_flow.Goals as goal
 
-pub returns-in-Some : goal.returns-in-Some
-returns-in-Some g c =
+pub returns : goal.returns
+returns g c =
     let x = c.args.network.now in
-    outcome_some (g.N.Network.net x) (g.met.N.Network.bounded x) c.args.flow.now c.solve.new.flow
-    c.args.nodes.now c.solve.new.nodes _ _
-    (omega (arith, c.arc_count-arcs.ensures)) (omega (arith, c.node_count-words.ensures))
-    (omega (arith, c.arc_count-arcs.ensures)) (omega (arith, c.node_count-words.ensures))
-    c.in-Some.value (omega arith) (omega arith) c.in-Some.ensures
-
-pub returns-in-None : goal.returns-in-None
-returns-in-None g c =
-    let x = c.args.network.now in
-    let e = c.in-None.ensures in
-    outcome_none (g.N.Network.net x) (g.met.N.Network.bounded x) c.args.flow.now c.solve.new.flow
-    c.args.nodes.now c.solve.new.nodes _ _
-    (omega (arith, c.arc_count-arcs.ensures)) (omega (arith, c.node_count-words.ensures))
-    (omega (arith, c.arc_count-arcs.ensures)) (omega (arith, c.node_count-words.ensures))
-    c.at-in-None.result c.at-in-None.ensures e.0 e.1 e.2
+    subst (Outcome (g.N.Network.net x) _ _ _ _) (sym c.ok_or.ensures.value)
+    (outcome_of (g.N.Network.net x) (g.met.N.Network.bounded x) c.args.flow.now c.solve.new.flow c.args.nodes.now
+    c.solve.new.nodes _ _ (omega (arith, c.arc_count-arcs.ensures)) (omega (arith, c.node_count-words.ensures))
+    (omega (arith, c.arc_count-arcs.ensures)) (omega (arith, c.node_count-words.ensures)) c.solve.result
+    c.at-2.result (omega (arith, length-take {A = ℕ})) (omega (arith, length-take {A = ℕ})) c.at-2.ensures c.solve.ensures)

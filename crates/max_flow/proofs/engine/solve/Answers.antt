@@ -1,42 +1,32 @@
-use Rattle.std.proofs.Common.{replicate, sym, refl, ap, ◌∙◌, arith}
+use Rattle.std.proofs.Common.{replicate, sym, refl, ap, ◌∙◌, arith, rules}
 use Rattle.std.proofs.lemmas.Bool.{ltb-true, ltb-false}
+use Rattle.std.proofs.lemmas.List.{get_or_append_left}
+use Rattle.flow.specs.Nets.{word}
 use Rattle.flow.proofs.Searches.{unhindered_some, unhindered_none}
-use Rattle.max_flow.specs.Layout.{rank_in, link_in}
 use Rattle.max_flow.proofs.Marking.{maximum}
 use Rattle.max_flow.proofs.engine.solve.Goals as goal
 
-pub returns-then-search : goal.returns-then-search
-returns-then-search g c =
+pub returns-then-search_in : goal.returns-then-search_in
+returns-then-search_in g c =
     let x = c.args.network.now in
-    let n = g.N.Network.net x in
-    let ws = c.search.new.nodes in
-    let found = ltb-true 0 (rank_in ws 1) (sym c.if-search.ensures.sink) in (
-      unhindered_some n (g.met.N.Network.bounded x).sound (rank_in ws) (link_in n.nodes ws)
-          c.search.ensures.searched (λ e. omega arith),
+    let ranks = c.search_in.new.rank in
+    let found = ltb-true 0 (word ranks 1) (sym c.if-search_in.ensures.sink) in
+    let t = c.search_in.ensures.searched in (
+      unhindered_some (g.N.Network.net x) (g.met.N.Network.bounded x).sound (word ranks) t.0 t.1 (λ e. omega arith),
       refl,
-      c.clear-then-search.ensures ∙ ap (λ m. replicate m 0) (omega (arith, c.requires.four)),
+      c.fill-then-search_in.ensures.after (λ y e. e) ∙ ap (λ m. replicate m 0) (omega arith),
     )
 
-pub climb-value-requires : goal.climb-value-requires
-climb-value-requires g c =
-    let n = g.N.Network.net c.args.network.now in
-    let ws = c.search.new.nodes in
-    let none = ltb-false 0 (rank_in ws 1) (sym c.if-search.ensures.sink) in
-    record {
-      flows = omega (arith, c.requires.flows);
-      four = omega (arith, c.requires.four);
-      finite = unhindered_none n _ (rank_in ws) (link_in n.nodes ws) c.search.ensures.searched (omega arith);
-      empty = c.drain.ensures;
-    }
+pub raise-value-requires-clause-finite : goal.raise-value-requires-clause-finite
+raise-value-requires-clause-finite g c =
+    let ranks = c.search_in.new.rank in
+    let none = ltb-false 0 (word ranks 1) (sym c.if-search_in.ensures.sink) in
+    let t = c.search_in.ensures.searched in
+    unhindered_none (g.N.Network.net c.args.network.now) (λ k. 0) (word ranks) t.0 t.1 (omega arith)
 
 pub returns : goal.returns
 returns g c =
     let x = c.args.network.now in
-    let n = g.N.Network.net x in
-    let ws = c.search.new.nodes in
-    let none = ltb-false 0 (rank_in ws 1) (sym c.if-search.ensures.sink) in
-    maximum n (g.met.N.Network.bounded x) c.climb-value.new.flow c.climb-value.new.nodes
-    c.mark.new.nodes c.climb-value.result c.node_count.result
-    c.node_count.ensures (omega (arith, c.requires.four))
-    (unhindered_none n _ (rank_in ws) (link_in n.nodes ws) c.search.ensures.searched (omega arith))
-    c.climb-value.ensures c.mark.ensures
+    maximum (g.N.Network.net x) (g.met.N.Network.bounded x) c.raise-value.new.flow c.raise-value.new.rank _
+    c.mark.new.nodes c.raise-value.result c.node_count-count.result c.node_count-count.ensures (search rules)
+    c.raise-value.ensures (λ v l. get_or_append_left c.raise-value.new.rank _ 0 v (omega arith)) c.mark.ensures

@@ -1,8 +1,0 @@
-use Rattle.std.proofs.Common.{◌-◌, ◌<◌}
-use Rattle.max_flow.proofs.deepen.entering_with_room.Given as goal
-
-abbrev pub invariant-loop-step : goal.invariant-loop-step
-invariant-loop-step g l = l.cursor < 2147483648
-
-abbrev pub decreases-loop-step : goal.decreases-loop-step
-decreases-loop-step g l = 1000000 - l.cursor
