@@ -38,6 +38,9 @@ pub trait Network {
     /// All answers about nodes and arcs together.
     ghost net: { Self → Net };
 
+    /// The answers lie within the limits of a network.
+    ghost bounded: { (x : Self) → Bounds (net x) };
+
     /// What `at` answers.
     ghost decoded: { Self → ℕ → Self.At };
 
@@ -45,6 +48,9 @@ pub trait Network {
     ghost outward: { Self → Self.At → ℕ → Option Step };
 
     ghost inward: { Self → Self.At → ℕ → Option Step };
+
+    /// They list the arcs that leave a node, and those that enter it, each with its other end.
+    ghost adjacent: { (x : Self) → Adjacent (net x) (λ v. outward x (decoded x v)) (λ v. inward x (decoded x v)) };
 
     /// How many nodes there are, 2 to 10,000.
     fn node_count(&self) -> usize
@@ -73,10 +79,4 @@ pub trait Network {
     /// The next arc that enters a node, from a cursor on; the first is asked for at cursor 0.
     fn entering(&self, at: Self::At, cursor: usize) -> Option<Step>
         ensures { result ≡ inward self.now at cursor };
-
-    /// The answers lie within the limits of a network.
-    ghost bounded: { (x : Self) → Bounds (net x) };
-
-    /// `outward` and `inward` list the arcs that leave a node, and those that enter it, each with its other end.
-    ghost adjacent: { (x : Self) → Adjacent (net x) (λ v. outward x (decoded x v)) (λ v. inward x (decoded x v)) };
 }

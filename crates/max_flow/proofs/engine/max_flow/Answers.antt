@@ -8,7 +8,7 @@ pub returns : goal.returns
 returns g c =
     let x = c.args.network.now in
     subst (Outcome (g.N.Network.net x) _ _ _ _) (sym c.ok_or.ensures.value)
-    (outcome_of (g.N.Network.net x) (g.met.N.Network.bounded x) c.args.flow.now c.solve.new.flow c.args.nodes.now
+    (outcome_of (g.N.Network.net x) (g.N.Network.bounded x) c.args.flow.now c.solve.new.flow c.args.nodes.now
     c.solve.new.nodes _ _ (omega (arith, c.arc_count-arcs.ensures)) (omega (arith, c.node_count-words.ensures))
     (omega (arith, c.arc_count-arcs.ensures)) (omega (arith, c.node_count-words.ensures)) c.solve.result
     c.at-2.result (omega (arith, length-take {A = ℕ})) (omega (arith, length-take {A = ℕ})) c.at-2.ensures c.solve.ensures)

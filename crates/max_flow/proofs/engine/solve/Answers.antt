@@ -12,7 +12,7 @@ returns-then-search_in g c =
     let ranks = c.search_in.new.rank in
     let found = ltb-true 0 (word ranks 1) (sym c.if-search_in.ensures.sink) in
     let t = c.search_in.ensures.searched in (
-      unhindered_some (g.N.Network.net x) (g.met.N.Network.bounded x).sound (word ranks) t.0 t.1 (λ e. omega arith),
+      unhindered_some (g.N.Network.net x) (g.N.Network.bounded x).sound (word ranks) t.0 t.1 (λ e. omega arith),
       refl,
       c.fill-then-search_in.ensures.after (λ y e. e) ∙ ap (λ m. replicate m 0) (omega arith),
     )
@@ -27,6 +27,6 @@ raise-value-requires-clause-finite g c =
 pub returns : goal.returns
 returns g c =
     let x = c.args.network.now in
-    maximum (g.N.Network.net x) (g.met.N.Network.bounded x) c.raise-value.new.flow c.raise-value.new.rank _
+    maximum (g.N.Network.net x) (g.N.Network.bounded x) c.raise-value.new.flow c.raise-value.new.rank _
     c.mark.new.nodes c.raise-value.result c.node_count-count.result c.node_count-count.ensures (search rules)
     c.raise-value.ensures (λ v l. get_or_append_left c.raise-value.new.rank _ 0 v (omega arith)) c.mark.ensures

@@ -8,6 +8,6 @@ loop-init g c =
       kept = record { same_network = refl; same_ranks = refl };
       raising = c.requires.raising;
       more = omega arith;
-      inside = omega (arith, (g.met.N.Network.bounded c.args.self.now.network.now).sound.two);
+      inside = omega (arith, (g.N.Network.bounded c.args.self.now.network.now).sound.two);
       way = arrived;
     }

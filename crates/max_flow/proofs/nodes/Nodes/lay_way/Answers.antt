@@ -10,7 +10,7 @@ pub loop-node-init : goal.loop-node-init
 loop-node-init g c =
     let s = c.args.self.now in (
       record { same_network = refl; same_ranks = refl },
-      laying_begins (net_of s) (g.met.N.Network.bounded s.network.now).sound (word c.args.flow.now) (rank_in s)
+      laying_begins (net_of s) (g.N.Network.bounded s.network.now).sound (word c.args.flow.now) (rank_in s)
           (link_in s) c.requires.found c.requires.sink,
     )
 

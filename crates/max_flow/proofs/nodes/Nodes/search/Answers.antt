@@ -9,7 +9,7 @@ loop-self-init g c =
     let s = c.begin.new.self in
     let b = c.begin.ensures.begun in (
       c.begin.ensures.kept,
-      search_begins (net_of s) (g.met.N.Network.bounded s.network.now).sound (word c.args.flow.now) (rank_in s)
+      search_begins (net_of s) (g.N.Network.bounded s.network.now).sound (word c.args.flow.now) (rank_in s)
           (link_in s) (queue_in s) b.first b.none b.waits,
       omega arith,
     )
