@@ -1,9 +1,10 @@
 // Opening a table file: every field from front to back, and the first fault counts.
-ghost use Rattle.std.specs.Prelude.{◌≡◌, ◌+◌, ◌*◌, ◌<◌, ◌≤◌, length, is_ok, Some};
-ghost use Rattle.table_file.specs.Format.{unless, head_fault, duration_fault, durations_fault, price_count_fault, price_fault, prices_fault, relation_count_fault, relations_fault, end_fault, activities_in, relations_in, opening, faultless};
+ghost use Rattle.std.specs.Prelude.{◌≡◌, ◌+◌, ◌*◌, ◌<◌, ◌≤◌, length, is_ok, Some, IfOk, IfErr};
+ghost use Rattle.table_file.specs.Format.{unless, head_fault, duration_fault, durations_fault, price_count_fault, price_fault, prices_fault, relation_count_fault, relations_fault, end_fault, activities_in, relations_in, file_fault, opening, faultless};
 ghost use Rattle.table_file.specs.Reading.{head_answer, HeadIs};
 
 use crate::fields::{read_byte, read_count, read_price};
+use crate::held::Table;
 use crate::records::read_relation;
 use crate::shape::{Head, Shape};
 use model::refusal::{Fault, Refusal};
@@ -161,4 +162,16 @@ pub fn inspect(file: &[u8]) -> Result<Shape, Refusal>
     ensures opens { is_ok result ≡ faultless file.now }
 {
     read_fields(file)
+}
+
+impl<'a> Table<'a> {
+    /// Opens a table file: the table that it states, or its first fault with the place, as `inspect` tells it.
+    pub fn open(file: &'a [u8]) -> Result<Table<'a>, Refusal>
+        ensures opens { is_ok result ≡ faultless file.now }
+        ensures table { IfOk result (λ t. t.file.now ≡ file.now) }
+        ensures refused { IfErr result (λ e. file_fault file.now ≡ Some e) }
+    {
+        inspect(file)?;
+        Ok(Table { file })
+    }
 }
