@@ -1,5 +1,5 @@
 pub mod Parts
 pub mod Chains
 pub mod Single
-pub mod Heads
 pub mod Places
+pub mod Tests
