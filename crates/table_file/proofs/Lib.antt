@@ -1,5 +1,4 @@
-pub mod Parts
 pub mod Chains
 pub mod Single
 pub mod Places
-pub mod Tests
+pub mod Record

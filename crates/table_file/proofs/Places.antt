@@ -1,19 +1,17 @@
 -- Where a record stands in a faultless file, and that it passes.
-use Rattle.std.proofs.Common.{◌≡◌, ℕ, ◌+◌, ◌*◌, ◌<◌, ◌≤◌, true, ltb, List, length, Some, None, Result, sym, ap, ◌∙◌, mul-le-mul, arith}
+use Rattle.std.proofs.Common.{◌≡◌, ℕ, ◌+◌, ◌<◌, true, ltb, List, length, Some, None, Result, sym, ap, ◌∙◌, arith}
 use Rattle.std.proofs.lemmas.Bool.{ltb-true}
-use Rattle.std.proofs.lemmas.Nat.{mul-add-lt}
 use Rattle.model.specs.declared.refusal.Fault.TheVariants.{Range}
 use Rattle.model.specs.Meaning.{within, lag_of as lag_of_meaning}
 use Rattle.relations.specs.Lags.{gap_of, gap_fits, lag_of}
 use Rattle.table_file.specs.Stated.{stated, lag_stated, relation_of}
-use Rattle.table_file.specs.Lengths.{Lengths}
 use Rattle.table_file.proofs.Single.{present_fits}
 use Rattle.std.specs.Result.{result_ok}
 use Rattle.model.specs.declared.refusal.Refusal.{Refusal}
 use Rattle.relations.specs.declared.relation.Relation.{Relation}
-use Rattle.table_file.specs.Format.{faultless, unless, activities_in, horizon_in, duration_in, prices_place, relation_fault, ends_fault, interval_fault, relation_at, record_place, relations_in}
+use Rattle.table_file.specs.Format.{faultless, unless, duration_in, relation_fault, ends_fault, interval_fault, relation_at, record_place, relations_in}
 use Rattle.table_file.specs.Bounded.{faultless_parts}
-use Rattle.table_file.specs.Clear.{both_clear, each_clear, field_clear, ends_clear, EndsClear, HeadClear, durations_there}
+use Rattle.table_file.specs.Clear.{both_clear, each_clear, field_clear, ends_clear, EndsClear, durations_there}
 
 pub record_passes : (file : List ℕ) (k : ℕ) → faultless file ≡ true → k < relations_in file → relation_fault file (record_place file k) ≡ None
 record_passes file k ok less = each_clear (relations_in file) k (λ k. relation_fault file (record_place file k)) less (faultless_parts file ok).relations
@@ -50,12 +48,3 @@ lag_read file k rel d e ok here from_lasts to_lasts =
     rw (from_lasts, to_lasts)
     (ap (λ (r : Relation). within (gap_fits (gap_of r (duration_in file r.from) (duration_in file r.to))) (lag_of r (duration_in file r.from) (duration_in file r.to))) p.1
     ∙ ap (λ b. within b (lag_stated file at)) (fits ∙ sym p.0))
-
--- a price has its number among all, and its four bytes are there
-pub price_there : (file : List ℕ) (a t : ℕ) → HeadClear file → Lengths file → a < activities_in file → t < horizon_in file
-    → (a * horizon_in file + t < 8192) × (prices_place file + 4 * (a * horizon_in file + t) + 4 ≤ length file)
-price_there file a t head l less early =
-    let cell = mul-add-lt a (horizon_in file) t (activities_in file) less early in
-    let few : activities_in file * horizon_in file ≤ 8192 = mul-le-mul head.n_high head.h_high in
-    let there = l.count_there in
-    (omega (arith, cell, few), omega (arith, cell, there))

@@ -2,7 +2,7 @@
 ghost use Rattle.std.specs.Prelude.{◌≡◌, ◌+◌, ◌*◌, ◌<◌, ◌≤◌};
 ghost use Rattle.table_file.specs.Numbers.{four_bytes, signed};
 ghost use Rattle.table_file.specs.Format.{prices_place};
-ghost use Rattle.table_file.specs.Reading.{reading, bytes_read};
+ghost use Rattle.table_file.specs.Reading.{there, bytes_read};
 
 use crate::head::Headed;
 use model::refusal::{Fault, Refusal};
@@ -19,7 +19,7 @@ impl Field<'_> {
     // Its bytes, if the file does not end before the last of them.
     pub(crate) fn read<const N: usize>(self) -> Result<[u8; N], Refusal>
         requires { N ≤ 4 }
-        ensures { result ≡ bytes_read self.entry.file.bytes.now self.entry.at N }
+        ensures { let file = self.entry.file.bytes.now in let at = self.entry.at in result ≡ bytes_read file at N }
     {
         let at = usize::from(self.at);
         match self.file.bytes.get(at..at + N) {
@@ -28,9 +28,9 @@ impl Field<'_> {
         }
     }
 
-    // Four bytes of it as a price.
+    // Its four bytes as a price.
     pub(crate) fn price(self) -> Result<i32, Refusal>
-        ensures { result ≡ reading self.entry.file.bytes.now self.entry.at 4 (signed 32 (four_bytes self.entry.file.bytes.now self.entry.at)) }
+        ensures { let file = self.entry.file.bytes.now in let at = self.entry.at in result ≡ there file at 4 (Ok (signed 32 (four_bytes file at))) }
     {
         Ok(i32::from_le_bytes(self.read()?))
     }

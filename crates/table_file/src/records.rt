@@ -2,7 +2,7 @@
 ghost use Rattle.std.specs.Prelude.{◌≡◌, ◌+◌, ◌<◌, ◌≤◌, length};
 ghost use Rattle.table_file.specs.Numbers.{byte};
 ghost use Rattle.table_file.specs.Format.{unless, activity_fault, activities_in, relation_fault, relation_at};
-ghost use Rattle.table_file.specs.Reading.{lettered};
+ghost use Rattle.table_file.specs.Reading.{there};
 
 use crate::fields::Field;
 use model::refusal::{Fault, Refusal};
@@ -19,14 +19,14 @@ impl Field<'_> {
     }
 
     fn letter<T: Letter>(self) -> Result<T, Refusal>
-        ensures { result ≡ lettered self.entry.file.bytes.now self.entry.at (T.answer (byte self.entry.file.bytes.now self.entry.at) self.entry.at) }
+        ensures { let file = self.entry.file.bytes.now in let at = self.entry.at in result ≡ there file at 1 (T.answer (byte file at) at) }
     {
         let [letter] = self.read::<1>()?;
         T::of_letter(char::from(letter), self.at)
     }
 
     fn activity(self) -> Result<u8, Refusal>
-        ensures { result ≡ unless (activity_fault self.entry.file.bytes.now self.entry.at) (byte self.entry.file.bytes.now self.entry.at) }
+        ensures { let file = self.entry.file.bytes.now in let at = self.entry.at in result ≡ unless (activity_fault file at) (byte file at) }
     {
         let [activity] = self.read::<1>()?;
         if activity >= self.file.activities() {
@@ -39,7 +39,7 @@ impl Field<'_> {
     pub(crate) fn relation(self) -> Result<Relation, Refusal>
         requires near { self.at < 64000 }
         requires durations { 3 + activities_in self.file.bytes.now ≤ length self.file.bytes.now }
-        ensures { result ≡ unless (relation_fault self.entry.file.bytes.now self.entry.at) (relation_at self.entry.file.bytes.now self.entry.at) }
+        ensures { let file = self.entry.file.bytes.now in let at = self.entry.at in result ≡ unless (relation_fault file at) (relation_at file at) }
     {
         let relation = Relation {
             from_end: self.letter()?,

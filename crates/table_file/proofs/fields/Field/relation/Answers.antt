@@ -5,7 +5,7 @@ use Rattle.model.specs.Refusals.{refuse}
 use Rattle.table_file.specs.Format.{relation_fault, relation_at}
 use Rattle.table_file.proofs.Chains.{fails, passes}
 use Rattle.table_file.proofs.Single.{absent_fails, present_fits}
-use Rattle.table_file.proofs.Tests.{Tested, made, end_read, sense_read, activity_read, interval_read, tested}
+use Rattle.table_file.proofs.Record.{Tested, made, part_read, end_at, sense_at, activity_at, end_is, sense_is, interval_read, tested}
 use Rattle.table_file.proofs.fields.Field.relation.Goals as goal
 use Rattle.table_file.proofs.fields.Field.relation.Goals.{After-lag}
 
@@ -14,11 +14,11 @@ gap_tested c =
     let file = c.args.self.file.bytes.now in
     let at = c.args.self.at in
     tested file at _ _ _
-    (end_read file _ at _ _ refl refl c.in_ok-letter.ensures)
-    (end_read file _ (at + 1) _ _ c.after.ensures.file c.after.ensures.place c.in_ok-letter-2.ensures)
-    (sense_read file _ (at + 2) _ _ c.after-2.ensures.file c.after-2.ensures.place c.in_ok-letter-3.ensures)
-    (activity_read file _ (at + 3) _ _ c.after-3.ensures.file c.after-3.ensures.place c.in_ok-activity.ensures)
-    (activity_read file _ (at + 4) _ _ c.after-4.ensures.file c.after-4.ensures.place c.in_ok-activity-2.ensures)
+    (part_read end_at file _ at _ _ _ _ refl refl c.in_ok-letter.ensures (end_is file at))
+    (part_read end_at file _ (at + 1) _ _ _ _ c.after.ensures.file c.after.ensures.place c.in_ok-letter-2.ensures (end_is file (at + 1)))
+    (part_read sense_at file _ (at + 2) _ _ _ _ c.after-2.ensures.file c.after-2.ensures.place c.in_ok-letter-3.ensures (sense_is file (at + 2)))
+    (part_read activity_at file _ (at + 3) _ _ _ _ c.after-3.ensures.file c.after-3.ensures.place c.in_ok-activity.ensures refl)
+    (part_read activity_at file _ (at + 4) _ _ _ _ c.after-4.ensures.file c.after-4.ensures.place c.in_ok-activity-2.ensures refl)
     (interval_read file _ (at + 5) _ _ _ c.after-5.ensures.file c.after-5.ensures.place c.in_ok-read.ensures c.from_le_bytes.ensures)
     c.duration-from_duration.ensures c.duration-to_duration.ensures
 

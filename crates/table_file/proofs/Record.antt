@@ -1,6 +1,6 @@
 -- The fields of a record once they were read, in a file and at a place that are known to be these: none has
 -- a fault, and each holds what stands there. Then the test of the gap.
-use Rattle.std.proofs.Common.{◌≡◌, ℕ, ◌+◌, false, cond, ltb, List, length, ℤ, Some, None, Ok, Option, refl, ap, ◌∙◌, w16, arith}
+use Rattle.std.proofs.Common.{◌≡◌, ℕ, ◌+◌, false, cond, ltb, List, length, ℤ, Some, None, Ok, Option, Result, slice_range, refl, ap, ◌∙◌, w16, arith}
 use Rattle.std.specs.Int.{cast_signed, from_le_bytes}
 use Rattle.std.proofs.lemmas.Grind.{common_steps}
 use Rattle.std.proofs.lemmas.Bool.Decides.{nat_tests}
@@ -14,7 +14,7 @@ use Rattle.relations.specs.Letters.{end_answer, sense_answer}
 use Rattle.relations.specs.Lags.{gap_of, gap_fits}
 use Rattle.table_file.specs.Numbers.{byte, two_bytes, signed}
 use Rattle.table_file.specs.Format.{unless, or_else, duration_in, end_named, sense_named, end_letter_fault, sense_letter_fault, activity_fault, ends_fault, interval_fault, relation_fault, relation_at, gap_at}
-use Rattle.table_file.specs.Reading.{bytes_read, lettered}
+use Rattle.table_file.specs.Reading.{there, bytes_read}
 use Rattle.table_file.proofs.Chains.{clear, value}
 use Rattle.table_file.proofs.Single.{read_there, field_there}
 
@@ -23,37 +23,36 @@ pub record Passed {A : Type 0} (f : Option Refusal) (v x : A) : Type 0 where
   pub clean : f ≡ None
   pub same : x ≡ v
 
-passed : {A : Type 0} (f : Option Refusal) (v x : A) → Ok x ≡ unless f v → Passed f v x
-passed f v x e = record { clean = clear f v x e; same = value f v x e }
+pub part_read : {A : Type 0} (read : List ℕ → ℕ → Result A Refusal) (file file' : List ℕ) (at at' : ℕ) (f : Option Refusal) (v x : A)
+    → file' ≡ file → at' ≡ at → Ok x ≡ read file' at' → read file at ≡ unless f v → Passed f v x
+part_read read file file' at at' f v x same here e is =
+    let answer = e ∙ ap (λ g. read g at') same ∙ ap (read file) here ∙ is in
+    record { clean = clear f v x answer; same = value f v x answer }
 
-end_is : (file : List ℕ) (at : ℕ) → lettered file at (end_answer (byte file at) at) ≡ unless (end_letter_fault file at) (end_named (byte file at))
+-- what is read of each kind
+abbrev pub end_at : List ℕ → ℕ → Result End Refusal
+end_at file at = there file at 1 (end_answer (byte file at) at)
+
+abbrev pub sense_at : List ℕ → ℕ → Result Sense Refusal
+sense_at file at = there file at 1 (sense_answer (byte file at) at)
+
+abbrev pub activity_at : List ℕ → ℕ → Result ℕ Refusal
+activity_at file at = unless (activity_fault file at) (byte file at)
+
+pub end_is : (file : List ℕ) (at : ℕ) → end_at file at ≡ unless (end_letter_fault file at) (end_named (byte file at))
 end_is file at = grind (arith, nat_tests)
 
-sense_is : (file : List ℕ) (at : ℕ) → lettered file at (sense_answer (byte file at) at) ≡ unless (sense_letter_fault file at) (sense_named (byte file at))
+pub sense_is : (file : List ℕ) (at : ℕ) → sense_at file at ≡ unless (sense_letter_fault file at) (sense_named (byte file at))
 sense_is file at = grind (arith, nat_tests)
-
-pub end_read : (file file' : List ℕ) (at at' : ℕ) (x : End) → file' ≡ file → at' ≡ at → Ok x ≡ lettered file' at' (end_answer (byte file' at') at') → Passed (end_letter_fault file at) (end_named (byte file at)) x
-end_read file file' at at' x same here e =
-    passed (end_letter_fault file at) (end_named (byte file at)) x (e ∙ end_is file' at' ∙ ap (λ f. unless (end_letter_fault f at') (end_named (byte f at'))) same ∙ ap (λ p. unless (end_letter_fault file p) (end_named (byte file p))) here)
-
-pub sense_read : (file file' : List ℕ) (at at' : ℕ) (x : Sense) → file' ≡ file → at' ≡ at → Ok x ≡ lettered file' at' (sense_answer (byte file' at') at') → Passed (sense_letter_fault file at) (sense_named (byte file at)) x
-sense_read file file' at at' x same here e =
-    passed (sense_letter_fault file at) (sense_named (byte file at)) x (e ∙ sense_is file' at' ∙ ap (λ f. unless (sense_letter_fault f at') (sense_named (byte f at'))) same ∙ ap (λ p. unless (sense_letter_fault file p) (sense_named (byte file p))) here)
-
-pub activity_read : (file file' : List ℕ) (at at' x : ℕ) → file' ≡ file → at' ≡ at → Ok x ≡ unless (activity_fault file' at') (byte file' at') → Passed (activity_fault file at) (byte file at) x
-activity_read file file' at at' x same here e =
-    passed (activity_fault file at) (byte file at) x (e ∙ ap (λ f. unless (activity_fault f at') (byte f at')) same ∙ ap (λ p. unless (activity_fault file p) (byte file p)) here)
-
-two_of : (file : List ℕ) (at : ℕ) (bytes : List ℕ) → Ok bytes ≡ bytes_read file at 2 → (ltb (length file) (at + 2) ≡ false) × (from_le_bytes w16 bytes ≡ two_bytes file at)
-two_of file at bytes e =
-    let p = read_there file at 2 _ bytes e in
-    (p.0, ap (from_le_bytes w16) p.1 ∙ grind (arith, common_steps))
 
 pub interval_read : (file file' : List ℕ) (at at' : ℕ) (bytes : List ℕ) (v : ℤ) → file' ≡ file → at' ≡ at → Ok bytes ≡ bytes_read file' at' 2 → v ≡ cast_signed w16 (from_le_bytes w16 bytes)
     → (ltb (length file) (at + 2) ≡ false) × (v ≡ signed 16 (two_bytes file at))
 interval_read file file' at at' bytes v same here e is =
-    let p = two_of file at bytes (e ∙ ap (λ f. bytes_read f at' 2) same ∙ ap (λ p. bytes_read file p 2) here) in
-    (p.0, is ∙ ap (cast_signed w16) p.1)
+    let p = read_there file at 2 _ bytes (e ∙ ap (λ g. bytes_read g at' 2) same ∙ ap (λ i. bytes_read file i 2) here) in
+    (p.0, is ∙ ap (λ b. cast_signed w16 (from_le_bytes w16 b)) p.1 ∙ ap (cast_signed w16) (two_of file at))
+  where
+    two_of : (file : List ℕ) (at : ℕ) → from_le_bytes w16 (slice_range file at (at + 2)) ≡ two_bytes file at
+    two_of file at = grind (arith, common_steps)
 
 -- a relation of its fields
 abbrev pub made : End → End → Sense → ℕ → ℕ → ℤ → Relation
