@@ -1,19 +1,19 @@
 #![tactic(auto)]
 // Tests of opening table files, in a crate of their own so that the reader is not proved twice.
-use table_file::open::inspect;
-
-/// The number and the place of a file's first fault; `None` if it opens.
-pub fn fault_of(file: &[u8]) -> Option<(u16, u16)> {
-    match inspect(file) {
-        Ok(_) => None,
-        Err(refusal) => Some((refusal.fault.number(), refusal.place)),
-    }
-}
 
 #[cfg(test)]
 mod tests {
-    use super::*;
+    use model::lag::Lag;
+    use model::project::Project;
     use std::test::Fail;
+    use table_file::held::Table;
+    use table_file::open::inspect;
+
+    // The number and the place of a file's first fault, as people and C see them; `None` if it opens.
+    fn fault_of(file: &[u8]) -> Option<(u16, u16)> {
+        let refusal = inspect(file).err()?;
+        Some((refusal.fault.number(), refusal.place))
+    }
 
     // Horizon 4, two activities of durations 2 and 1, and one relation: 0 finishes before 1 starts; and a
     // byte more, which belongs to no file.
@@ -30,6 +30,23 @@ mod tests {
                 assert_eq!(rt; shape.horizon, 4);
                 assert_eq!(rt; shape.activities, 2);
                 assert_eq!(rt; shape.relations, 1);
+                Ok(())
+            }
+        }
+    }
+
+    #[test]
+    fn the_worked_file_is_a_table(rt: HostRuntime) -> Result<(), Fail> {
+        match Table::open(&TWO_IN_TURN[0..48]) {
+            Err(_) => Err(Fail::new("refused")),
+            Ok(table) => {
+                assert_eq!(rt; table.shape().relations, 1);
+                let second_after_first = Lag {
+                    from: 0,
+                    to: 1,
+                    gap: 2,
+                };
+                assert_eq!(rt; table.lag(0), Some(second_after_first));
                 Ok(())
             }
         }

@@ -1,5 +1,6 @@
 // A relation between an end of one activity and an end of another, by its letters and its interval.
-ghost use Rattle.std.specs.Prelude.{◌≡◌, pos, ◌+ℤ◌, ◌-ℤ◌};
+ghost use Rattle.std.specs.Prelude.{◌≡◌, ℕ, Result, pos, ◌+ℤ◌, ◌-ℤ◌};
+ghost use Rattle.model.specs.declared.refusal.Refusal.{Refusal};
 ghost use Rattle.model.specs.Meaning.{within};
 ghost use Rattle.relations.specs.Letters.{end_answer, sense_answer};
 ghost use Rattle.relations.specs.Lags.{reach, gap_of, gap_fits, lag_of};
@@ -36,25 +37,36 @@ pub struct Relation {
     pub interval: i16,
 }
 
-/// The end that a letter names. Any letter but S and F is out of range at its place.
-pub fn end_of(letter: char, place: u16) -> Result<End, Refusal>
-    ensures { result ≡ end_answer letter place }
-{
-    match letter {
-        'S' => Ok(End::Start),
-        'F' => Ok(End::Finish),
-        _ => Err(Fault::Range.at(place)),
+/// What a letter of a relation stands for: an end or a sense.
+pub trait Letter: Sized {
+    ghost answer: { ℕ → ℕ → Result Self Refusal };
+
+    /// What a letter stands for. One that stands for nothing is out of range at its place.
+    fn of_letter(letter: char, place: u16) -> Result<Self, Refusal>
+        ensures { result ≡ answer letter place };
+}
+
+impl Letter for End {
+    ghost answer = { end_answer };
+
+    fn of_letter(letter: char, place: u16) -> Result<End, Refusal> {
+        match letter {
+            'S' => Ok(End::Start),
+            'F' => Ok(End::Finish),
+            _ => Err(Fault::Range.at(place)),
+        }
     }
 }
 
-/// The sense that a letter names. Any letter but L and M is out of range at its place.
-pub fn sense_of(letter: char, place: u16) -> Result<Sense, Refusal>
-    ensures { result ≡ sense_answer letter place }
-{
-    match letter {
-        'L' => Ok(Sense::Least),
-        'M' => Ok(Sense::Greatest),
-        _ => Err(Fault::Range.at(place)),
+impl Letter for Sense {
+    ghost answer = { sense_answer };
+
+    fn of_letter(letter: char, place: u16) -> Result<Sense, Refusal> {
+        match letter {
+            'L' => Ok(Sense::Least),
+            'M' => Ok(Sense::Greatest),
+            _ => Err(Fault::Range.at(place)),
+        }
     }
 }
 
@@ -75,9 +87,9 @@ impl Relation {
     pub fn gap(self, from_duration: u8, to_duration: u8) -> i32
         ensures { result ≡ gap_of self from_duration to_duration }
     {
-        let a = self.from_end.reach(from_duration) as i32;
-        let b = self.to_end.reach(to_duration) as i32;
-        let v = self.interval as i32;
+        let a = i32::from(self.from_end.reach(from_duration));
+        let b = i32::from(self.to_end.reach(to_duration));
+        let v = i32::from(self.interval);
         match self.sense {
             Sense::Least => v + a - b,
             Sense::Greatest => b - a - v,
@@ -90,21 +102,17 @@ impl Relation {
         ensures { result ≡ within (gap_fits (gap_of self from_duration to_duration)) (lag_of self from_duration to_duration) }
     {
         let gap = self.gap(from_duration, to_duration);
-        if gap < -256 || gap > 256 {
+        if !(-256..=256).contains(&gap) {
             return None;
         }
-        let gap = gap as i16;
-        match self.sense {
-            Sense::Least => Some(Lag {
-                from: self.from,
-                to: self.to,
-                gap,
-            }),
-            Sense::Greatest => Some(Lag {
-                from: self.to,
-                to: self.from,
-                gap,
-            }),
-        }
+        let (from, to) = match self.sense {
+            Sense::Least => (self.from, self.to),
+            Sense::Greatest => (self.to, self.from),
+        };
+        Some(Lag {
+            from,
+            to,
+            gap: gap as i16,
+        })
     }
 }

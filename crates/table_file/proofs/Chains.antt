@@ -1,6 +1,8 @@
 -- The first fault of several parts, as a reader meets it that stops at the first fault.
 use Rattle.std.proofs.Common.{◌≡◌, ℕ, zero, suc, ◌+◌, ◌<◌, Some, None, Ok, Err, Option, Result, sym, refl, ap, ◌∙◌, ⊎_elim, add-one, arith}
+use Rattle.std.specs.Result.{IsErrAnd}
 use Rattle.std.proofs.lemmas.Bool.{cases_order}
+use Rattle.std.proofs.lemmas.Result.{err_from_is_err_and}
 use Rattle.model.specs.declared.refusal.Refusal.{Refusal}
 use Rattle.table_file.specs.Format.{or_else, each, unless}
 
@@ -17,18 +19,16 @@ pub fault : {V : Type 0} (f : Option Refusal) (v : V) (r : Refusal) → Err r �
 fault None v r e = absurd (let z : ◌≡◌ {A = ℕ} 0 1 = cc in omega arith)
 fault (Some s) v r e = cc
 
--- a part without a fault is passed by, one with a fault ends the reading
-pub past : {V : Type 0} (f g : Option Refusal) (v : V) (r : Result V Refusal) → f ≡ None → r ≡ unless g v → r ≡ unless (or_else f g) v
-past f g v r clean rest = rest ∙ ap (λ o. unless (or_else o g) v) (sym clean)
-
-pub stops : {V : Type 0} (f g : Option Refusal) (v : V) (r : Refusal) → f ≡ Some r → Err r ≡ unless (or_else f g) v
-stops f g v r bad = ap (λ o. unless (or_else o g) v) (sym bad)
-
+-- a part without a fault answers its value, one with a fault ends the reading
 pub fails : {V : Type 0} (f : Option Refusal) (v : V) (r : Refusal) → f ≡ Some r → Err r ≡ unless f v
 fails f v r bad = ap (λ o. unless o v) (sym bad)
 
 pub passes : {V : Type 0} (f : Option Refusal) (v : V) → f ≡ None → Ok v ≡ unless f v
 passes f v clean = ap (λ o. unless o v) (sym clean)
+
+-- what the exit of a `?` returns
+pub stopped : {V : Type 0} (f : Option Refusal) (v : V) (r : Result V Refusal) (e : Refusal) → IsErrAnd r (λ y. y ≡ e) → f ≡ Some e → r ≡ unless f v
+stopped f v r e bad here = let p = err_from_is_err_and r bad in rw (p.1, p.2) (fails f v e here)
 
 -- the same over k parts
 pub each_more : (k : ℕ) (f : ℕ → Option Refusal) → each k f ≡ None → f k ≡ None → each (k + 1) f ≡ None

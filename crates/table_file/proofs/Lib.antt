@@ -1,5 +1,4 @@
-pub mod Parts
 pub mod Chains
 pub mod Single
-pub mod Heads
 pub mod Places
+pub mod Record

@@ -5,19 +5,11 @@ use Rattle.model.specs.declared.refusal.Fault.TheVariants.{Short}
 use Rattle.model.specs.declared.refusal.Refusal.{Refusal}
 use Rattle.model.specs.Refusals.{refuse}
 use Rattle.model.specs.Meaning.{within}
-use Rattle.table_file.specs.Format.{field, unless}
-use Rattle.table_file.specs.Reading.{reading}
-
--- a number that is not there is the fault of its field
-pub short_field : {V W : Type 0} (file : List ℕ) (at bytes : ℕ) (b : Bool) (f : Fault) (v : V) (w : W) (r : Refusal) → Err r ≡ reading file at bytes v → Err r ≡ unless (field file at bytes b f) w
-short_field {V} {W} file at bytes b f v w r e =
-    elim (ltb (length file) (at + bytes)) as (λ t. Err r ≡ cond {A = Result V Refusal} t (Err (refuse Short (length file))) (Ok v) → Err r ≡ unless {A = W} (cond t (Some (refuse Short (length file))) (cond b None (Some (refuse f at)))) w) [
-      | true ↦ λ z. cc
-      | false ↦ λ z. absurd (let o : ◌≡◌ {A = ℕ} 0 1 = cc in omega arith)
-    ] e
+use Rattle.table_file.specs.Format.{field}
+use Rattle.table_file.specs.Reading.{there}
 
 -- a number that was read is there, and is the one that stands there
-pub read_there : {V : Type 0} (file : List ℕ) (at bytes : ℕ) (v x : V) → Ok x ≡ reading file at bytes v → (ltb (length file) (at + bytes) ≡ false) × (x ≡ v)
+pub read_there : {V : Type 0} (file : List ℕ) (at bytes : ℕ) (v x : V) → Ok x ≡ there file at bytes (Ok v) → (ltb (length file) (at + bytes) ≡ false) × (x ≡ v)
 read_there {V} file at bytes v x e =
     elim (ltb (length file) (at + bytes)) as (λ t. Ok x ≡ cond {A = Result V Refusal} t (Err (refuse Short (length file))) (Ok v) → (t ≡ false) × (x ≡ v)) [
       | true ↦ λ z. absurd (let o : ◌≡◌ {A = ℕ} 0 1 = cc in omega arith)

@@ -1,7 +1,6 @@
 pub mod Numbers
 pub mod Format
 pub mod Reading
-pub mod Records
 pub mod Stated
 pub mod Clear
 pub mod Bounded

@@ -1,61 +1,56 @@
-// Numbers of a file, each refused where its bytes run past the end.
-ghost use Rattle.std.specs.Prelude.{◌≡◌, ◌+◌, ◌<◌, ◌≤◌, length};
-ghost use Rattle.table_file.specs.Numbers.{byte, two_bytes, four_bytes, signed};
-ghost use Rattle.table_file.specs.Reading.{reading};
-ghost use Rattle.table_file.specs.Stated.{price_stated};
+// One field of a file, refused where its bytes run past the end.
+ghost use Rattle.std.specs.Prelude.{◌≡◌, ◌+◌, ◌*◌, ◌<◌, ◌≤◌};
+ghost use Rattle.table_file.specs.Numbers.{four_bytes, signed};
+ghost use Rattle.table_file.specs.Format.{prices_place};
+ghost use Rattle.table_file.specs.Reading.{there, bytes_read};
 
-use model::price::Price;
+use crate::head::Headed;
 use model::refusal::{Fault, Refusal};
 
-pub(crate) fn read_byte(file: &[u8], at: usize) -> Result<u8, Refusal>
-    requires { at < 65000 }
-    ensures { result ≡ reading file.now at 1 (byte file.now at) }
-{
-    if file.len() < at + 1 {
-        return Err(Fault::Short.at(file.len() as u16));
-    }
-    Ok(file[at])
+// A field of a file, near enough to its front for a refusal to name the place.
+#[derive(Clone, Copy)]
+pub(crate) struct Field<'a> {
+    pub(crate) file: Headed<'a>,
+    pub(crate) at: u16,
+    ghost near: { at < 65000 },
 }
 
-pub(crate) fn read_count(file: &[u8], at: usize) -> Result<u16, Refusal>
-    requires { at < 65000 }
-    ensures { result ≡ reading file.now at 2 (two_bytes file.now at) }
-{
-    if file.len() < at + 2 {
-        return Err(Fault::Short.at(file.len() as u16));
+impl Field<'_> {
+    // Its bytes, if the file does not end before the last of them.
+    pub(crate) fn read<const N: usize>(self) -> Result<[u8; N], Refusal>
+        requires { N ≤ 4 }
+        ensures { let file = self.entry.file.bytes.now in let at = self.entry.at in result ≡ bytes_read file at N }
+    {
+        let at = usize::from(self.at);
+        match self.file.bytes.get(at..at + N) {
+            Some(bytes) => Ok(bytes.try_into().unwrap()),
+            None => Err(Fault::Short.at(self.file.bytes.len() as u16)),
+        }
     }
-    Ok(u16::from_le_bytes([file[at], file[at + 1]]))
+
+    // Its four bytes as a price.
+    pub(crate) fn price(self) -> Result<i32, Refusal>
+        ensures { let file = self.entry.file.bytes.now in let at = self.entry.at in result ≡ there file at 4 (Ok (signed 32 (four_bytes file at))) }
+    {
+        Ok(i32::from_le_bytes(self.read()?))
+    }
 }
 
-pub(crate) fn read_interval(file: &[u8], at: usize) -> Result<i16, Refusal>
-    requires { at < 65000 }
-    ensures { result ≡ reading file.now at 2 (signed 16 (two_bytes file.now at)) }
-{
-    if file.len() < at + 2 {
-        return Err(Fault::Short.at(file.len() as u16));
+impl<'a> Headed<'a> {
+    pub(crate) fn field(self, at: u16) -> Field<'a>
+        requires { at < 65000 }
+        ensures file { result.file.bytes.now ≡ self.entry.bytes.now }
+        ensures place { result.at ≡ at }
+    {
+        Field { file: self, at }
     }
-    Ok(i16::from_le_bytes([file[at], file[at + 1]]))
-}
 
-pub(crate) fn read_price(file: &[u8], at: usize) -> Result<i32, Refusal>
-    requires { at < 65000 }
-    ensures { result ≡ reading file.now at 4 (signed 32 (four_bytes file.now at)) }
-{
-    if file.len() < at + 4 {
-        return Err(Fault::Short.at(file.len() as u16));
-    }
-    Ok(i32::from_le_bytes([file[at], file[at + 1], file[at + 2], file[at + 3]]))
-}
-
-// The price that four bytes state.
-pub(crate) fn price_at(file: &[u8], at: usize) -> Price
-    requires { (at < 65000) × (at + 4 ≤ length file.now) }
-    ensures { result ≡ price_stated (signed 32 (four_bytes file.now at)) }
-{
-    let price = i32::from_le_bytes([file[at], file[at + 1], file[at + 2], file[at + 3]]);
-    if price == i32::MIN {
-        Price::Closed(0)
-    } else {
-        Price::Open(price)
+    // The field of a price, by its number in the order of the file.
+    pub(crate) fn cell(self, number: u16) -> Field<'a>
+        requires { number < 8192 }
+        ensures file { result.file.bytes.now ≡ self.entry.bytes.now }
+        ensures place { result.at ≡ prices_place self.entry.bytes.now + 4 * number }
+    {
+        self.field(self.prices_place() + 4 * number)
     }
 }

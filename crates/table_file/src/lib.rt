@@ -3,6 +3,7 @@
 // file, answers as a project, and hands out its sections as parts of the file.
 pub mod examples;
 mod fields;
+mod head;
 pub mod held;
 pub mod open;
 mod records;

@@ -1,91 +1,59 @@
 // One relation of a file: seven bytes, six fields.
 ghost use Rattle.std.specs.Prelude.{◌≡◌, ◌+◌, ◌<◌, ◌≤◌, length};
 ghost use Rattle.table_file.specs.Numbers.{byte};
-ghost use Rattle.table_file.specs.Format.{unless, end_letter_fault, sense_letter_fault, activity_fault, end_named, sense_named, activities_in, ends_fault, relation_fault, relation_at};
-ghost use Rattle.table_file.specs.Records.{ends_at, gap_fault, BeforeGap};
+ghost use Rattle.table_file.specs.Format.{unless, activity_fault, activities_in, relation_fault, relation_at};
+ghost use Rattle.table_file.specs.Reading.{there};
 
-use crate::fields::{read_byte, read_interval};
+use crate::fields::Field;
 use model::refusal::{Fault, Refusal};
-use relations::relation::{End, Relation, Sense, end_of, sense_of};
+use relations::relation::{Letter, Relation};
 
-fn read_end(file: &[u8], at: usize) -> Result<End, Refusal>
-    requires { at < 65000 }
-    ensures { result ≡ unless (end_letter_fault file.now at) (end_named (byte file.now at)) }
-{
-    end_of(read_byte(file, at)? as char, at as u16)
-}
-
-fn read_sense(file: &[u8], at: usize) -> Result<Sense, Refusal>
-    requires { at < 65000 }
-    ensures { result ≡ unless (sense_letter_fault file.now at) (sense_named (byte file.now at)) }
-{
-    sense_of(read_byte(file, at)? as char, at as u16)
-}
-
-fn read_activity(file: &[u8], at: usize) -> Result<u8, Refusal>
-    requires { (at < 65000) × (3 ≤ length file.now) }
-    ensures { result ≡ unless (activity_fault file.now at) (byte file.now at) }
-{
-    let activity = read_byte(file, at)?;
-    if activity >= file[2] {
-        return Err(Fault::Range.at(at as u16));
+impl Field<'_> {
+    // The field so many bytes on.
+    fn after(self, bytes: u16) -> Self
+        requires { self.at + bytes < 65000 }
+        ensures file { result.file.bytes.now ≡ self.entry.file.bytes.now }
+        ensures place { result.at ≡ self.entry.at + bytes }
+    {
+        self.file.field(self.at + bytes)
     }
-    Ok(activity)
-}
 
-// What stands in a record before its interval.
-#[derive(Clone, Copy)]
-struct Ends {
-    from_end: End,
-    to_end: End,
-    sense: Sense,
-    from: u8,
-    to: u8,
-}
-
-fn read_ends(file: &[u8], at: usize) -> Result<Ends, Refusal>
-    requires { (at < 64000) × (3 ≤ length file.now) }
-    ensures { result ≡ unless (ends_fault file.now at) (ends_at file.now at) }
-{
-    Ok(Ends {
-        from_end: read_end(file, at)?,
-        to_end: read_end(file, at + 1)?,
-        sense: read_sense(file, at + 2)?,
-        from: read_activity(file, at + 3)?,
-        to: read_activity(file, at + 4)?,
-    })
-}
-
-// The relation of a record, unless its gap is out of bounds.
-fn bounded(file: &[u8], at: usize, relation: Relation) -> Result<Relation, Refusal>
-    requires { BeforeGap file.now at relation }
-    ensures { result ≡ unless (gap_fault file.now at) (relation_at file.now at) }
-{
-    let from_duration = file[3 + relation.from as usize];
-    let to_duration = file[3 + relation.to as usize];
-    match relation.lag(from_duration, to_duration) {
-        None => Err(Fault::Range.at((at + 5) as u16)),
-        Some(_) => Ok(relation),
+    fn letter<T: Letter>(self) -> Result<T, Refusal>
+        ensures { let file = self.entry.file.bytes.now in let at = self.entry.at in result ≡ there file at 1 (T.answer (byte file at) at) }
+    {
+        let [letter] = self.read::<1>()?;
+        T::of_letter(char::from(letter), self.at)
     }
-}
 
-// The relation whose record begins at a place, in a file whose durations are there.
-pub(crate) fn read_relation(file: &[u8], at: usize) -> Result<Relation, Refusal>
-    requires { (at < 64000) × ((1 ≤ activities_in file.now) × (3 + activities_in file.now ≤ length file.now)) }
-    ensures { result ≡ unless (relation_fault file.now at) (relation_at file.now at) }
-{
-    let ends = read_ends(file, at)?;
-    let interval = read_interval(file, at + 5)?;
-    bounded(
-        file,
-        at,
-        Relation {
-            from_end: ends.from_end,
-            to_end: ends.to_end,
-            sense: ends.sense,
-            from: ends.from,
-            to: ends.to,
-            interval,
-        },
-    )
+    fn activity(self) -> Result<u8, Refusal>
+        ensures { let file = self.entry.file.bytes.now in let at = self.entry.at in result ≡ unless (activity_fault file at) (byte file at) }
+    {
+        let [activity] = self.read::<1>()?;
+        if activity >= self.file.activities() {
+            return Err(Fault::Range.at(self.at));
+        }
+        Ok(activity)
+    }
+
+    // The relation whose record begins here, in a file whose durations are there.
+    pub(crate) fn relation(self) -> Result<Relation, Refusal>
+        requires near { self.at < 64000 }
+        requires durations { 3 + activities_in self.file.bytes.now ≤ length self.file.bytes.now }
+        ensures { let file = self.entry.file.bytes.now in let at = self.entry.at in result ≡ unless (relation_fault file at) (relation_at file at) }
+    {
+        let relation = Relation {
+            from_end: self.letter()?,
+            to_end: self.after(1).letter()?,
+            sense: self.after(2).letter()?,
+            from: self.after(3).activity()?,
+            to: self.after(4).activity()?,
+            interval: i16::from_le_bytes(self.after(5).read()?),
+        };
+        let from_duration = self.file.duration(relation.from);
+        let to_duration = self.file.duration(relation.to);
+        match relation.lag(from_duration, to_duration) {
+            None => Err(Fault::Range.at(self.at + 5)),
+            Some(_) => Ok(relation),
+        }
+    }
 }

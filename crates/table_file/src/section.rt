@@ -26,9 +26,7 @@ impl<'a> Section<'a> {
         ensures { result.now ≡ bytes_in self.entry }
     {
         match self {
-            Section::Durations(bytes) => bytes,
-            Section::Prices(bytes) => bytes,
-            Section::Relations(bytes) => bytes,
+            Section::Durations(bytes) | Section::Prices(bytes) | Section::Relations(bytes) => bytes,
         }
     }
 }

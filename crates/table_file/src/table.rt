@@ -1,18 +1,16 @@
 // An opened table file as a project.
 ghost use Rattle.std.specs.Prelude.{◌≡◌, ◌+◌, ◌*◌, ◌<◌, ◌≤◌, true};
 ghost use Rattle.model.specs.Meaning.{Meaning, Bounds};
-ghost use Rattle.table_file.specs.Format.{faultless};
+ghost use Rattle.table_file.specs.Format.{faultless, shape_of};
 ghost use Rattle.table_file.specs.Sections.{shown, durations_of, prices_of, relations_of};
 ghost use Rattle.table_file.specs.Stated.{stated, relation_of};
 ghost use Rattle.table_file.specs.Bounded.{stated_bounds};
 ghost use Rattle.table_file.specs.Lengths.{Lengths};
-ghost use Rattle.table_file.specs.Reading.{HeadIs};
 
-use crate::fields::price_at;
+use crate::head::Headed;
 use crate::held::Table;
-use crate::records::read_relation;
 use crate::section::{Placed, Section};
-use crate::shape::Head;
+use crate::shape::Shape;
 use model::lag::Lag;
 use model::price::Price;
 use model::project::Project;
@@ -31,13 +29,22 @@ impl<'a> Table<'a> {
         Table { file }
     }
 
-    fn head(&self) -> Head
-        ensures head { HeadIs self.now.file.now result }
+    fn headed(&self) -> Headed<'a>
+        ensures bytes { result.bytes.now ≡ self.now.file.now }
         ensures lengths { Lengths self.now.file.now }
     {
-        Head {
-            horizon: self.file[1],
-            activities: self.file[2],
+        Headed { bytes: self.file }
+    }
+
+    /// How many slots, activities and relations it has.
+    pub fn shape(&self) -> Shape
+        ensures { result ≡ shape_of self.now.file.now }
+    {
+        let headed = self.headed();
+        Shape {
+            horizon: headed.horizon(),
+            activities: headed.activities(),
+            relations: self.lag_count(),
         }
     }
 
@@ -48,18 +55,21 @@ impl<'a> Table<'a> {
         if number >= self.lag_count() {
             return None;
         }
-        let place = self.head().relation_count_place() + 2;
-        read_relation(self.file, place + 7 * number as usize).ok()
+        let headed = self.headed();
+        headed
+            .field(headed.relations_place() + 7 * number)
+            .relation()
+            .ok()
     }
 
     /// The durations of the activities, as they lie in the file.
     pub fn durations(&self) -> Placed<'a>
         ensures { shown result ≡ durations_of self.now.file.now }
     {
-        let head = self.head();
+        let end = 3 + usize::from(self.headed().activities());
         Placed {
             place: 3,
-            section: Section::Durations(&self.file[3..3 + head.activities as usize]),
+            section: Section::Durations(&self.file[3..end]),
         }
     }
 
@@ -67,12 +77,12 @@ impl<'a> Table<'a> {
     pub fn prices(&self) -> Placed<'a>
         ensures { shown result ≡ prices_of self.now.file.now }
     {
-        let head = self.head();
-        let place = 5 + head.activities as usize;
-        let end = head.relation_count_place();
+        let headed = self.headed();
+        let place = headed.prices_place();
+        let end = headed.relation_count_place();
         Placed {
-            place: place as u16,
-            section: Section::Prices(&self.file[place..end]),
+            place,
+            section: Section::Prices(&self.file[usize::from(place)..usize::from(end)]),
         }
     }
 
@@ -80,10 +90,10 @@ impl<'a> Table<'a> {
     pub fn relations(&self) -> Placed<'a>
         ensures { shown result ≡ relations_of self.now.file.now }
     {
-        let place = self.head().relation_count_place() + 2;
+        let place = self.headed().relations_place();
         Placed {
-            place: place as u16,
-            section: Section::Relations(&self.file[place..]),
+            place,
+            section: Section::Relations(&self.file[usize::from(place)..]),
         }
     }
 }
@@ -94,40 +104,44 @@ impl<'a> Project for Table<'a> {
     ghost bounded = { λ x. stated_bounds x.file.now x.sound };
 
     fn count(&self) -> u16 {
-        self.head().activities as u16
+        u16::from(self.headed().activities())
     }
 
     fn horizon(&self) -> u16 {
-        self.head().horizon as u16
+        u16::from(self.headed().horizon())
     }
 
     fn duration(&self, activity: u16) -> Option<u16> {
         if activity >= self.count() {
             return None;
         }
-        Some(self.file[3 + activity as usize] as u16)
+        Some(u16::from(self.file[3 + usize::from(activity)]))
     }
 
     fn price(&self, activity: u16, slot: Slot) -> Option<Price> {
-        let head = self.head();
-        if activity >= head.activities as u16 || slot.0 >= head.horizon as u16 {
+        let headed = self.headed();
+        if activity >= self.count() || slot.0 >= self.horizon() {
             return None;
         }
-        let cell = activity as usize * head.horizon as usize + slot.0 as usize;
-        Some(price_at(self.file, 5 + head.activities as usize + 4 * cell))
+        let number = activity * u16::from(headed.horizon()) + slot.0;
+        let price = headed.cell(number).price().unwrap();
+        if price == i32::MIN {
+            Some(Price::Closed(0))
+        } else {
+            Some(Price::Open(price))
+        }
     }
 
     fn lag_count(&self) -> u16 {
-        let place = self.head().relation_count_place();
-        u16::from_le_bytes([self.file[place], self.file[place + 1]])
+        let headed = self.headed();
+        let count = headed.field(headed.relation_count_place());
+        u16::from_le_bytes(count.read().unwrap())
     }
 
     fn lag(&self, number: u16) -> Option<Lag> {
         let relation = self.relation(number)?;
-        relation.lag(
-            self.file[3 + relation.from as usize],
-            self.file[3 + relation.to as usize],
-        )
+        let headed = self.headed();
+        relation.lag(headed.duration(relation.from), headed.duration(relation.to))
     }
 
     fn height(&self) -> u8 {
