@@ -33,9 +33,9 @@ impl<P: Project> Bounds<'_, P> {
         requires room { entries_needed (P.meaning self.now.project.now) ≤ size chain.old }
         ensures { Explained (P.meaning self.now.project.now) chain.old chain.new result }
     {
-        // The entries are lent, so the length of the chain stands beside them.
         let mut node = last;
         chain[0] = node.entry;
+        // Beside the entries, since lent ones are no `Vec`.
         let mut length = 1;
         while node.parent != 0 {
             node = self.node(node.parent);
