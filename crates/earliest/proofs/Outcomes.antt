@@ -52,7 +52,7 @@ told_impossible m starts chain chain' k x =
       answer = refl;
       starts_are = refl;
       chain_is = x;
-      least = λ ok. absurd (let z : ◌≡◌ {A = ℕ} 0 1 = cc in omega arith);
+      least = λ ok. absurd cc;
     } in
     let none = (none_defined_exactly.no_earliest m).none_found (refute m (take k chain') x.chain) in
     subst (λ (o : Option (List ℕ)). Told m (searched o) starts starts chain chain' (Err (refuse fault.Impossible k))) (sym none) t
@@ -70,8 +70,8 @@ says e k r is at = ap says_impossible (is ∙ ap (λ (x : Ending). answer_of x k
 searched_exactly : (m : Meaning) (o : Option (List ℕ)) (k : ℕ) (r : Result (Unit {0}) Refusal) → earliest m ≡ o → r ≡ answer_of (searched o) k → Decides (says_impossible r) (NoneMeets m)
 searched_exactly m None k r e is = ((λ yes. (none_defined_exactly.no_earliest m).none_meets e), λ none. ap says_impossible is)
 searched_exactly m (Some s) k r e is = (
-  (λ yes. absurd (let z : false ≡ true = sym (ap says_impossible is) ∙ yes in let n : ◌≡◌ {A = ℕ} 0 1 = cc in omega arith)),
-  λ none. absurd (let f = (none_defined_exactly.no_earliest m).none_found none in let z : Some s ≡ None = sym e ∙ f in let n : ◌≡◌ {A = ℕ} 0 1 = cc in omega arith),
+  (λ yes. let z : false ≡ true = sym (ap says_impossible is) ∙ yes in absurd cc),
+  λ none. let z : Some s ≡ None = sym e ∙ (none_defined_exactly.no_earliest m).none_found none in absurd cc,
 )
 
 pub exactly : (m : Meaning) (s w c : ℕ) (r : Result (Unit {0}) Refusal) → r ≡ answer_of (ending m s w c) (place_of r) → Enough m s w c → Decides (says_impossible r) (NoneMeets m)

@@ -132,10 +132,10 @@ fresh m nd la b root none =
 
 pub open_when_none : (q : Price) (a t e : ℕ) → past q a t e ≡ None → is_open q ≡ true
 open_when_none (Open x) a t e is = refl
-open_when_none (Closed h) a t e is = let z : ◌≡◌ {A = ℕ} 0 1 = cc in absurd (omega arith)
+open_when_none (Closed h) a t e is = cc
 
 none_test : (b : Bool) (w : Node) → cond {A = Option Node} b (Some w) None ≡ None → b ≡ false
-none_test true w e = let z : ◌≡◌ {A = ℕ} 0 1 = cc in absurd (omega arith)
+none_test true w e = cc
 none_test false w e = refl
 
 pub holds_when_none : (m : Meaning) (nd : ℕ → Node) (la : ℕ → ℕ) (k : ℕ) → bound nd la (m.lag k).to < m.horizon → lag_step m nd la k ≡ None
