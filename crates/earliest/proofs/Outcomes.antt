@@ -2,7 +2,7 @@
 use Rattle.std.proofs.Common.{◌≡◌, ℕ, ◌-◌, ◌*◌, ◌<◌, ◌≤◌, true, false, List, ◌++◌, length, take, drop, replicate, pos, ◌+ℤ◌, ◌≤ℤ◌, Some, None, Ok, Err, Decides, Option, Result, sym, refl, ap, ◌∙◌, subst, mul-le-mul, arith}
 use Rattle.std.proofs.lemmas.List.FromFn.{length-map-range_with_len, get_or-map-range_with_len}
 use Rattle.std.proofs.lemmas.List.{take_at}
-use Rattle.std.proofs.lemmas.Bool.{le-ltb}
+use Rattle.std.proofs.lemmas.Bool.Decides.{nat_tests}
 use Rattle.model.specs.declared.refusal.Fault.TheVariants as fault
 use Rattle.model.specs.declared.refusal.Refusal.{Refusal}
 use Rattle.model.specs.Meaning.{Meaning, Bounds}
@@ -12,7 +12,7 @@ use Rattle.model.specs.Chosen.{Earliest, NoneMeets}
 use Rattle.model.proofs.Search.{earliest_first, none_defined_exactly}
 use Rattle.earliest.specs.declared.chain.Entry.{Entry}
 use Rattle.earliest.specs.declared.nodes.Node.{Node}
-use Rattle.earliest.specs.Outcome.{words_needed, entries_needed, Explained, Ending, impossible, found, searched, ending, answer_of, place_of, says_impossible, nodes_after, Enough, Told, Outcome}
+use Rattle.earliest.specs.Outcome.{words_needed, Explained, Ending, impossible, found, searched, ending, answer_of, place_of, says_impossible, nodes_after, Enough, Told, Outcome}
 use Rattle.earliest.specs.Pushing.{bound, bounds, State, Quiet}
 use Rattle.earliest.proofs.Refute.{refute}
 use Rattle.earliest.proofs.Steps.{open_when_none, holds_when_none}
@@ -52,26 +52,19 @@ told_impossible m starts chain chain' k x =
       answer = refl;
       starts_are = refl;
       chain_is = x;
-      least = λ ok. absurd (let z : ◌≡◌ {A = ℕ} 0 1 = cc in omega arith);
+      least = λ ok. absurd cc;
     } in
     let none = (none_defined_exactly.no_earliest m).none_found (refute m (take k chain') x.chain) in
     subst (λ (o : Option (List ℕ)). Told m (searched o) starts starts chain chain' (Err (refuse fault.Impossible k))) (sym none) t
 
 enough_ending : (m : Meaning) (s w c : ℕ) → Enough m s w c → ending m s w c ≡ searched (earliest m)
-enough_ending m s w c e =
-    let a = le-ltb s m.n e.starts in
-    let b = le-ltb w (words_needed m) e.nodes in
-    let d = le-ltb c (entries_needed m) e.entries in
-    simp (a, b, d)
-
-says : (e : Ending) (k : ℕ) (r : Result (Unit {0}) Refusal) → r ≡ answer_of e k → (e ≡ impossible → says_impossible r ≡ true)
-says e k r is at = ap says_impossible (is ∙ ap (λ (x : Ending). answer_of x k) at)
+enough_ending m s w c e = grind (arith, nat_tests)
 
 searched_exactly : (m : Meaning) (o : Option (List ℕ)) (k : ℕ) (r : Result (Unit {0}) Refusal) → earliest m ≡ o → r ≡ answer_of (searched o) k → Decides (says_impossible r) (NoneMeets m)
 searched_exactly m None k r e is = ((λ yes. (none_defined_exactly.no_earliest m).none_meets e), λ none. ap says_impossible is)
 searched_exactly m (Some s) k r e is = (
-  (λ yes. absurd (let z : false ≡ true = sym (ap says_impossible is) ∙ yes in let n : ◌≡◌ {A = ℕ} 0 1 = cc in omega arith)),
-  λ none. absurd (let f = (none_defined_exactly.no_earliest m).none_found none in let z : Some s ≡ None = sym e ∙ f in let n : ◌≡◌ {A = ℕ} 0 1 = cc in omega arith),
+  (λ yes. let z : false ≡ true = sym (ap says_impossible is) ∙ yes in absurd cc),
+  λ none. let z : Some s ≡ None = sym e ∙ (none_defined_exactly.no_earliest m).none_found none in absurd cc,
 )
 
 pub exactly : (m : Meaning) (s w c : ℕ) (r : Result (Unit {0}) Refusal) → r ≡ answer_of (ending m s w c) (place_of r) → Enough m s w c → Decides (says_impossible r) (NoneMeets m)

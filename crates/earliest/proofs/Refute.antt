@@ -25,8 +25,7 @@ cut_kept h (negsuc x) y le lt = omega (arith, ints)
 pub open_not_closed : (p : Price) (h : ℕ) → p ≡ Closed h → is_open p ≡ true → ⊥
 open_not_closed p h e o =
     let z : true ≡ false = sym o ∙ ap is_open e in
-    let n : ◌≡◌ {A = ℕ} 0 1 = cc in
-    omega arith
+    cc
 
 -- a reason carries what is known of one start over to the next
 pub leads_on : (m : Meaning) (s : List ℕ) (how : How) (a t b u : ℕ) → Meets m s → a < m.n → Leads m how a t b u → t ≤ start s a → u ≤ start s b

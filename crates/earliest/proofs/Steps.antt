@@ -1,12 +1,13 @@
 -- What a push does to the state: each step is sound, and the state is kept.
-use Rattle.std.proofs.Common.{◌≡◌, ℕ, ◌+◌, ◌-◌, ◌*◌, ◌<◌, ◌≤◌, Bool, true, false, cond, ltb, pos, ◌+ℤ◌, ◌≤ℤ◌, Some, None, Option, sym, refl, ap, ◌∙◌, subst, ⊎_elim, arith}
-use Rattle.std.proofs.lemmas.Bool.{cases_eq, ltb-false}
+use Rattle.std.proofs.Common.{◌≡◌, ℕ, ◌+◌, ◌-◌, ◌*◌, ◌<◌, ◌≤◌, true, pos, ◌+ℤ◌, ◌≤ℤ◌, None, sym, refl, ap, ◌∙◌, subst, ⊎_elim, arith}
+use Rattle.std.proofs.lemmas.Bool.{cases_eq}
+use Rattle.std.proofs.lemmas.Bool.Decides.{nat_tests}
 use Rattle.model.specs.declared.price.Price.{Price}
 use Rattle.model.specs.declared.price.Price.TheVariants.{Open, Closed}
 use Rattle.model.specs.Meaning.{Meaning, Bounds}
 use Rattle.model.specs.Starts.{start, is_open}
 use Rattle.earliest.specs.declared.nodes.Node.{Node}
-use Rattle.earliest.specs.Pushing.{bound, past, lag_slot, lag_node, lag_step, origin, Pushes, Sound, State}
+use Rattle.earliest.specs.Pushing.{bound, past, lag_step, origin, Pushes, Sound, State}
 use Rattle.earliest.proofs.Refute.{leads_on, cut_kept}
 use Rattle.earliest.proofs.Totals.{total_more, total_most}
 
@@ -132,15 +133,9 @@ fresh m nd la b root none =
 
 pub open_when_none : (q : Price) (a t e : ℕ) → past q a t e ≡ None → is_open q ≡ true
 open_when_none (Open x) a t e is = refl
-open_when_none (Closed h) a t e is = let z : ◌≡◌ {A = ℕ} 0 1 = cc in absurd (omega arith)
-
-none_test : (b : Bool) (w : Node) → cond {A = Option Node} b (Some w) None ≡ None → b ≡ false
-none_test true w e = let z : ◌≡◌ {A = ℕ} 0 1 = cc in absurd (omega arith)
-none_test false w e = refl
+open_when_none (Closed h) a t e is = cc
 
 pub holds_when_none : (m : Meaning) (nd : ℕ → Node) (la : ℕ → ℕ) (k : ℕ) → bound nd la (m.lag k).to < m.horizon → lag_step m nd la k ≡ None
     → (pos (bound nd la (m.lag k).from) +ℤ (m.lag k).gap) ≤ℤ pos (bound nd la (m.lag k).to)
 holds_when_none m nd la k low is =
-    cut_kept m.horizon (pos (bound nd la (m.lag k).from) +ℤ (m.lag k).gap) (bound nd la (m.lag k).to)
-    (ltb-false (bound nd la (m.lag k).to) (lag_slot m nd la k) (none_test (ltb (bound nd la (m.lag k).to) (lag_slot m nd la k)) (lag_node m nd la k) is))
-    low
+    cut_kept m.horizon (pos (bound nd la (m.lag k).from) +ℤ (m.lag k).gap) (bound nd la (m.lag k).to) (grind (arith, nat_tests)) low

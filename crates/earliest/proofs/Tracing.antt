@@ -1,6 +1,6 @@
 -- From a node back to slot 0: what is gathered on the way, front to back, goes on to the horizon.
-use Rattle.std.proofs.Common.{◌≡◌, ℕ, ◌<◌, ◌≤◌, false, eqb, ◌⊎◌, List, [], ◌∷◌, sym, refl, ap, ◌∙◌, subst, inl, inr, ⊎_elim, arith}
-use Rattle.std.proofs.lemmas.Bool.{cases_eq, ne_eqb, and_left, and_right}
+use Rattle.std.proofs.Common.{◌≡◌, ℕ, ◌<◌, ◌≤◌, false, ◌⊎◌, List, [], ◌∷◌, sym, refl, ap, ◌∙◌, subst, inl, inr, ⊎_elim, arith}
+use Rattle.std.proofs.lemmas.Bool.Decides.{nat_tests}
 use Rattle.model.specs.Meaning.{Meaning}
 use Rattle.earliest.specs.declared.chain.How.TheVariants.{Start}
 use Rattle.earliest.specs.declared.chain.Entry.{Entry}
@@ -51,19 +51,11 @@ trail_start m nd la c v s p end =
 
 -- what stands after a node is another point than the node's own
 differs : (m : Meaning) (nd : ℕ → Node) (la : ℕ → ℕ) (c : ℕ) → State m nd la c → (e : ℕ) → 0 < e → e ≤ c → (nd e).entry.slot.0 < m.horizon → (f : Entry) → After m nd c e f → same_point (nd e).entry f ≡ false
-differs m nd la c s e some le low f (inl end) =
-    and_right (eqb (nd e).entry.activity f.activity) (eqb (nd e).entry.slot.0 f.slot.0)
-    (ne_eqb (nd e).entry.slot.0 f.slot.0 (λ x. omega (arith, end)))
+differs m nd la c s e some le low f (inl end) = grind (arith, nat_tests)
 differs m nd la c s e some le low f (inr w) =
-    let same : (nd w.0).entry ≡ f = w.3 in
-    ⊎_elim
-    (λ (a : (nd e).entry.activity ≡ f.activity).
-    let less = s.apart e w.0 some w.1 w.2 (a ∙ sym (ap (λ (x : Entry). x.activity) same)) in
-    and_right (eqb (nd e).entry.activity f.activity) (eqb (nd e).entry.slot.0 f.slot.0)
-    (ne_eqb (nd e).entry.slot.0 f.slot.0 (λ x. omega (arith, less, ap (λ (y : Entry). y.slot.0) same))))
-    (λ (ne : (nd e).entry.activity ≡ f.activity → ⊥).
-    and_left (eqb (nd e).entry.activity f.activity) (eqb (nd e).entry.slot.0 f.slot.0) (ne_eqb (nd e).entry.activity f.activity ne))
-    (cases_eq (nd e).entry.activity f.activity)
+    let later : (nd e).entry.activity ≡ f.activity → (nd e).entry.slot.0 < f.slot.0 = λ same.
+    rw (ap (λ (x : Entry). x.slot.0) w.3) at (s.apart e w.0 some w.1 w.2 (same ∙ sym (ap (λ (x : Entry). x.activity) w.3))) in
+    grind (arith, nat_tests)
 
 all_differ : (m : Meaning) (nd : ℕ → Node) (la : ℕ → ℕ) (c : ℕ) → State m nd la c → (e : ℕ) → 0 < e → e ≤ c → (nd e).entry.slot.0 < m.horizon → (fs : List Entry) → AllAfter m nd c e fs → NotAmong (nd e).entry fs
 all_differ m nd la c s e some le low [] w = tt
@@ -107,7 +99,7 @@ none_at_start m nd la c s h a e [] w = tt
 none_at_start m nd la c s h a e (f ∷ fs) w =
     let high : 0 < f.slot.0 =
     ⊎_elim {C = 0 < f.slot.0} (λ x. omega (arith, x)) (λ x. omega (arith, (s.sound x.0 (omega (arith, x.1)) x.2).above, ap (λ (y : Entry). y.slot.0) x.3)) w.0 in
-    (and_right (eqb a f.activity) (eqb 0 f.slot.0) (ne_eqb 0 f.slot.0 (λ x. omega arith)), none_at_start m nd la c s h a e fs w.1)
+    (grind (arith, nat_tests), none_at_start m nd la c s h a e fs w.1)
 
 -- the first entry makes it a chain
 pub trail_end : (m : Meaning) (nd : ℕ → Node) (la : ℕ → ℕ) (c : ℕ) (v : Node) (es : List Entry) → State m nd la c → 0 < m.horizon → Trail m nd c v es → v.parent ≡ 0 → Chain m (start_entry (from m v) ∷ es)

@@ -2,21 +2,16 @@
 use Rattle.std.proofs.Common.{◌≡◌, ℕ, ◌+◌, ◌-◌, ◌*◌, ◌<◌, ◌≤◌, List, [], ◌∷◌, ◌++◌, reverse, length, take, drop, set, sym, ap, ◌∙◌, subst, mul-le-mul, mul-add, arith, length-set}
 use Rattle.std.proofs.lemmas.List.{reverse-append, take_more_set, drop-set-lt, drop-drop, take_at, drop_at, length-reverse, length-take-le, length-append}
 use Rattle.model.specs.Meaning.{Meaning, Bounds}
-use Rattle.earliest.specs.declared.chain.How.{How}
-use Rattle.earliest.specs.declared.chain.How.TheVariants.{Start, PastClosed, ByLag}
 use Rattle.earliest.specs.declared.chain.Entry.{Entry}
 use Rattle.earliest.specs.declared.nodes.Node.{Node}
-use Rattle.earliest.specs.Chain.{Leads, Chain}
 use Rattle.earliest.specs.Outcome.{entries_needed, Explained}
 use Rattle.earliest.specs.Pushing.{State, Reaches, origin}
-use Rattle.earliest.specs.Tracing.{Known, Gathered}
 use Rattle.earliest.proofs.Steps.{nodes_few}
 use Rattle.earliest.proofs.Tracing.{Trail, trail_start, trail_more, trail_end, start_entry}
 
 -- k entries are written, back to front, and the walk stands at node v
 pub record Walk (m : Meaning) (nd : ℕ → Node) (c : ℕ) (before after : List Entry) (k : ℕ) (v : Node) : Type 0 where
   pub trail : Trail m nd c v (reverse (take k after))
-  pub some : 1 ≤ k
   pub few : k + v.parent ≤ c + 1
   pub room : k + 1 ≤ entries_needed m
   pub small : k + 1 ≤ 8193
@@ -28,11 +23,6 @@ reverse_put xs k x lt = ap reverse (take_more_set xs k x lt) ∙ reverse-append 
 
 pub drop_put : {A : Type 0} (xs ys : List A) (k : ℕ) (x : A) → drop k xs ≡ drop k ys → drop (k + 1) (set xs k x) ≡ drop (k + 1) ys
 drop_put xs ys k x e = drop-set-lt (k + 1) xs k x (omega arith) ∙ sym (drop-drop 1 k xs) ∙ ap (drop 1) e ∙ drop-drop 1 k ys
-
-pub known_by : (m : Meaning) (how : How) (a t b u : ℕ) → Leads m how a t b u → Known m how
-known_by m Start a t b u l = tt
-known_by m (PastClosed h) a t b u l = tt
-known_by m (ByLag k) a t b u l = l.0
 
 -- the entries needed are one more for each node, and one
 pub enough : (m : Meaning) → Bounds m → m.n * (m.horizon - 1) + 2 ≤ entries_needed m
@@ -57,7 +47,6 @@ module _ (m : Meaning) (nd : ℕ → Node) (la : ℕ → ℕ) (c : ℕ) (b : Bou
       let room = room_for 1 v.parent few in
       record {
         trail = subst (λ (rs : List Entry). Trail m nd c v rs) (sym (reverse_put es 0 v.entry (omega (arith, room)))) t;
-        some = omega arith;
         few = few;
         room = room;
         small = omega (arith, room, entries_fit m b);
@@ -72,7 +61,6 @@ module _ (m : Meaning) (nd : ℕ → Node) (la : ℕ → ℕ) (c : ℕ) (b : Bou
       let room = room_for (k + 1) p.parent few in
       record {
         trail = subst (λ (rs : List Entry). Trail m nd c p rs) (sym (reverse_put after k p.entry (omega (arith, w.room, w.long)))) (trail_more m nd la c v (reverse (take k after)) s w.trail some);
-        some = omega arith;
         few = few;
         room = room;
         small = omega (arith, room, entries_fit m b);
@@ -80,27 +68,18 @@ module _ (m : Meaning) (nd : ℕ → Node) (la : ℕ → ℕ) (c : ℕ) (b : Bou
         rest = drop_put after before k p.entry w.rest;
       }
 
-  pub walk_end : (before after : List Entry) (k : ℕ) (v : Node) (a : ℕ) → Walk m nd c before after k v → v.parent ≡ 0 → a ≡ origin m v.entry.how v.entry.activity
-      → Gathered m before (set after k (start_entry a)) (k + 1)
-  walk_end before after k v a w none is =
-      let o = origin m v.entry.how v.entry.activity in
+  -- with the first entry written, and then turned round, it is the chain
+  pub walk_end : (before after turned : List Entry) (k : ℕ) (v : Node) (a : ℕ) → Walk m nd c before after k v → v.parent ≡ 0 → a ≡ origin m v.entry.how v.entry.activity
+      → turned ≡ reverse (take (k + 1) (set after k (start_entry a))) ++ drop (k + 1) (set after k (start_entry a)) → Explained m before turned (k + 1)
+  walk_end before after turned k v a w none from is =
+      let xs = set after k (start_entry a) in
+      let front = reverse (take (k + 1) xs) in
+      let within : k < length after = omega (arith, w.room, w.long) in
+      let long : length front ≡ k + 1 = length-reverse (take (k + 1) xs) ∙ length-take-le (k + 1) xs (simp length-set (omega arith)) in
       rw is
       record {
-        chain = subst (λ (rs : List Entry). Chain m rs) (sym (reverse_put after k (start_entry o) (omega (arith, w.room, w.long))))
+        chain = rw (take_at front (drop (k + 1) xs) (k + 1) long, reverse_put after k (start_entry a) within, from)
             (trail_end m nd la c v (reverse (take k after)) s (omega (arith, b.h_low)) w.trail none);
-        some = w.room;
-        within = simp length-set (omega (arith, w.room, w.long));
-        rest = drop_put after before k (start_entry o) w.rest;
+        within = omega (arith, length-append front (drop (k + 1) xs), long);
+        rest = drop_at front (drop (k + 1) xs) (k + 1) long ∙ drop_put after before k (start_entry a) w.rest;
       }
-
--- turned round, what was gathered is the chain
-pub explained : (m : Meaning) (before xs after : List Entry) (k : ℕ) → Gathered m before xs k → after ≡ reverse (take k xs) ++ drop k xs → Explained m before after k
-explained m before xs after k g is =
-    let turned = reverse (take k xs) in
-    let long : length turned ≡ k = length-reverse (take k xs) ∙ length-take-le k xs g.within in
-    subst (λ (ys : List Entry). Explained m before ys k) (sym is)
-    record {
-      chain = subst (λ (ys : List Entry). Chain m ys) (sym (take_at turned (drop k xs) k long)) g.chain;
-      within = omega (arith, length-append turned (drop k xs), long);
-      rest = drop_at turned (drop k xs) k long ∙ g.rest;
-    }

@@ -2,5 +2,4 @@ pub mod Chain
 pub mod Outcome
 pub mod Nodes
 pub mod Pushing
-pub mod Tracing
 pub mod Examples

@@ -50,6 +50,12 @@ origin m Start a = a
 origin m (PastClosed h) a = a
 origin m (ByLag k) a = (m.lag k).from
 
+-- the lag that an entry names is one of the project's
+abbrev pub Known : Meaning → How → Type 0
+Known m Start = Unit {0}
+Known m (PastClosed h) = Unit {0}
+Known m (ByLag k) = k < m.lags
+
 -- a node v that pushes its activity up
 pub record Pushes (m : Meaning) (nd : ℕ → Node) (la : ℕ → ℕ) (v : Node) : Type 0 where
   pub real : v.entry.activity < m.n

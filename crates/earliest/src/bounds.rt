@@ -169,6 +169,7 @@ impl<'a, P: Project> Bounds<'a, P> {
             ≡ bounds (P.meaning self.now.project.now) (node_of self.now.nodes.now) (latest_of self.now.latest)
             ++ drop (P.meaning self.now.project.now).n starts.old }
     {
+        // No `iter_mut` and `zip`: past their borrow a proof knows none of the starts.
         for activity in 0..self.project.count() {
             starts[usize::from(activity)] = self.bound(activity).0 as u8;
         }

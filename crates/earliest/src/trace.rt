@@ -2,8 +2,7 @@
 ghost use Rattle.std.specs.Prelude.{◌≡◌, ◌≤◌, length as size};
 ghost use Rattle.earliest.specs.Nodes.{node_of};
 ghost use Rattle.earliest.specs.Outcome.{entries_needed, Explained};
-ghost use Rattle.earliest.specs.Pushing.{origin, latest_of, Reaches};
-ghost use Rattle.earliest.specs.Tracing.{Known};
+ghost use Rattle.earliest.specs.Pushing.{origin, latest_of, Known, Reaches};
 
 use crate::bounds::Bounds;
 use crate::chain::{Entry, How};

@@ -1,7 +1,7 @@
 -- Layers keep the limits of a project.
-use Rattle.std.specs.Prelude.{◌≡◌, ℕ, ◌+◌, ◌-◌, ◌*◌, ◌≤◌, Bool, true, false, cond, T, List, ℤ, pos, negsuc, ◌+ℤ◌, ◌≤ℤ◌, int_le, slice_index_or, refl}
+use Rattle.std.specs.Prelude.{◌≡◌, ℕ, ◌+◌, ◌-◌, ◌*◌, ◌≤◌, Bool, true, List, ℤ, pos, ◌+ℤ◌}
 use Rattle.std.proofs.Common.{arith}
-use Rattle.std.proofs.lemmas.Bool.{le-leb, and_from}
+use Rattle.std.proofs.lemmas.Bool.Decides.{nat_tests}
 use Rattle.std.proofs.lemmas.Int.{ints, clamps}
 use Rattle.model.specs.declared.price.Price.{Price}
 use Rattle.model.specs.declared.price.Price.TheVariants.{Open, Closed}
@@ -27,26 +27,11 @@ over_kept f m k b = record {
   height_ok = omega arith;
 }
 
-shut_fits : (b : Bool) (h : ℕ) (p : ℤ) → h ≤ 255 → price_fits (Open p) ≡ true → price_fits (cond b (Closed h) (Open p)) ≡ true
-shut_fits true h p le fits = le-leb h 255 le
-shut_fits false h p le fits = fits
-
 pub shut_keeps : (marks : List Bool) → Keeps (shut_by marks)
-shut_keeps marks h a t d p le fits = shut_fits (slice_index_or marks t false) h p le fits
+shut_keeps marks h a t d p le fits = grind (arith, nat_tests)
 
-from_test : (b : Bool) → T b → b ≡ true
-from_test true t = refl
-from_test false t = absurd t
-
-cut_low : (z : ℤ) → negsuc 999999999 ≤ℤ cut z
-cut_low z = omega (arith, ints, clamps)
-
-cut_high : (z : ℤ) → cut z ≤ℤ pos 1000000000
-cut_high z = omega (arith, ints, clamps)
+cut_fits : (z : ℤ) → price_fits (Open (cut z)) ≡ true
+cut_fits z = grind (arith, ints, clamps)
 
 pub late_keeps : (terms : List Term) → Keeps (late_by terms)
-late_keeps terms h a t d p le fits =
-    let z = p +ℤ pos ((term_of terms a).rate * (t + d - (term_of terms a).due)) in
-    and_from (int_le (negsuc 999999999) (cut z)) (int_le (cut z) (pos 1000000000))
-    (from_test (int_le (negsuc 999999999) (cut z)) (cut_low z).le)
-    (from_test (int_le (cut z) (pos 1000000000)) (cut_high z).le)
+late_keeps terms h a t d p le fits = cut_fits (p +ℤ pos ((term_of terms a).rate * (t + d - (term_of terms a).due)))

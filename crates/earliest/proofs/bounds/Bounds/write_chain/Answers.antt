@@ -1,9 +1,8 @@
-use Rattle.std.proofs.Common.{◌+◌, set, ap, arith, rules}
+use Rattle.std.proofs.Common.{ap, arith, rules}
 use Rattle.earliest.specs.declared.nodes.Node.{Node}
 use Rattle.earliest.specs.Nodes.{node_of}
 use Rattle.earliest.specs.Pushing.{latest_of}
-use Rattle.earliest.proofs.Trails.{walk_start, walk_more, walk_end, explained}
-use Rattle.earliest.proofs.Tracing.{start_entry}
+use Rattle.earliest.proofs.Trails.{walk_start, walk_more, walk_end}
 use Rattle.earliest.proofs.bounds.Bounds.write_chain.Goals as goal
 
 pub loop-node-init : goal.loop-node-init
@@ -28,9 +27,6 @@ loop-node-smaller g c =
 pub returns : goal.returns
 returns g c =
     let x = c.args.self.now in
-    let m = g.P.Project.meaning x.project.now in
     let l = c.loop-node in
-    explained m c.args.chain.now (set l.chain l.length (start_entry c.origin_of.result)) _ (l.length + 1)
-    (walk_end m (node_of x.nodes.now) (latest_of x.latest) x.count (g.met.P.Project.bounded x.project.now) x.state
-    c.args.chain.now l.chain l.length l.node c.origin_of.result l.invariant c.loop-node-test.false c.origin_of.ensures)
-    (search rules)
+    walk_end (g.P.Project.meaning x.project.now) (node_of x.nodes.now) (latest_of x.latest) x.count (g.met.P.Project.bounded x.project.now) x.state
+    c.args.chain.now l.chain _ l.length l.node c.origin_of.result l.invariant c.loop-node-test.false c.origin_of.ensures (search rules)
