@@ -28,13 +28,13 @@ pub trait Rule {
     /// The rule as a function of the layer's height, activity, slot, duration and price below.
     ghost repricing: { Self → Repricing };
 
-    /// It keeps prices and heights within their bounds.
-    ghost keeps: { (x : Self) → Keeps (repricing x) };
-
     /// The price of the activity at the slot.
     fn reprice(&self, asked: Asked) -> Price
         ensures { result ≡ repricing self.now
             asked.height asked.activity asked.slot.0 asked.duration asked.price };
+
+    /// It keeps prices and heights within their bounds.
+    ghost keeps: { (x : Self) → Keeps (repricing x) };
 }
 
 /// A layer: a rule laid on a project. It is a project itself, so layers can be stacked. What the
