@@ -4,7 +4,7 @@ use Rattle.std.specs.Option.{ok_or}
 use Rattle.std.proofs.lemmas.List.{get_or_append_left, drop_at, take-append-drop}
 use Rattle.std.proofs.lemmas.Bool.{ltb-true, ltb-false, lt-ltb, le-ltb, eq-eqb, ne_eqb, both_ways, cases_Bool}
 use Rattle.flow.specs.Nets.{Net, Bounds, IsFlow, word}
-use Rattle.flow.specs.Cuts.{FiniteCut, Marks, across}
+use Rattle.flow.specs.Cuts.{Finite, FiniteCut, Marks, across}
 use Rattle.flow.proofs.Duals.{marks_cut, no_flow_exceeds_a_cut, unhindered_inside}
 use Rattle.flow.proofs.Searches.{ranked_marks}
 use Rattle.flow.proofs.Sames.{flow_same, none_above_same, reached_same, finite_cut_same, across_same}
@@ -31,6 +31,11 @@ reaches_in {n = n} {ranks = ranks} s en t e er =
       sink = e ∙ ap (λ (y : List ℕ). ltb 0 (word y 1)) (sym er);
     }
 
+pub climbed_in : {N : _} {A : _} {b : _} {n : Net} {flow ranks : List ℕ} {w : ℕ} (s : Nodes N A b) → net_of s ≡ n
+    → Climbed (net_of s) flow s.rank.now w → ranks ≡ s.rank.now → Climbed n flow ranks w
+climbed_in {n = n} {flow = flow} {w = w} s en t er =
+    subst (λ (y : List ℕ). Climbed n flow y w) (sym er) (subst (λ (m : Net). Climbed m flow s.rank.now w) en t)
+
 -- a mark is 1 exactly at a rank
 mark_test : (r x : ℕ) → x ≡ min r 1 → eqb x 1 ≡ ltb 0 r
 mark_test r x e = go (ltb 0 r) refl
@@ -41,22 +46,22 @@ mark_test r x e = go (ltb 0 r) refl
 
 -- from the ranks in the first part of the words, to the marks
 pub maximum : (n : Net) → Bounds n → (flow ranks ws ws' : List ℕ) (w count : ℕ) → count ≡ n.nodes → length ws ≡ 4 * n.nodes
-    → Climbed n flow ranks w → ((v : ℕ) → v < n.nodes → word ws v ≡ word ranks v)
+    → Finite n → Climbed n flow ranks w → ((v : ℕ) → v < n.nodes → word ws v ≡ word ranks v)
     → ((i : ℕ) → i < length ws → get_or ws' i 0 ≡ cond (ltb i count) (min (get_or ws i 0) 1) 0)
     → Maximum n flow ws' w
-maximum n b flow ranks ws ws' w count ec four c first words =
+maximum n b flow ranks ws ws' w count ec four (S, fin) c first words =
     record {
-      is_flow = c.raising.is_flow;
+      is_flow = c.raised.is_flow;
       no_flow_has_more = most;
-      no_word_above_the_value = c.raising.none_above;
+      no_word_above_the_value = c.raised.none_above;
       marks = mark;
       rest_zero = λ i l h. words i (omega arith) ∙ ap (λ t. cond t (min (get_or ws i 0) 1) 0)
           (le-ltb i count (omega arith));
       marks_cut = finite_cut_same n b.sound (λ v. ltb 0 (word ranks v)) (marked ws') same cut.0;
       cut_has_the_value = across_same n b.sound (λ v. ltb 0 (word ranks v)) (marked ws') same n.capacity
           ∙ cut.1;
-      hindered = λ u. both_ways (c.raising.finite.0 1) c.raising.finite.1.lacks_sink
-          (unhindered_inside c.raising.finite.0 c.raising.finite.1 u);
+      hindered = λ u. both_ways (S 1) fin.lacks_sink
+          (unhindered_inside S fin u);
     }
   where
     here : (v : ℕ) → v < n.nodes → word ws' v ≡ min (word ranks v) 1
@@ -68,7 +73,7 @@ maximum n b flow ranks ws ws' w count ec four c first words =
     known = ranked_marks c.searched.1 c.sink
 
     cut : FiniteCut n (λ v. ltb 0 (word ranks v)) × (across n (λ v. ltb 0 (word ranks v)) n.capacity ≡ w)
-    cut = marks_cut n b.sound (word flow) w c.raising.is_flow (λ v. ltb 0 (word ranks v)) known
+    cut = marks_cut n b.sound (word flow) w c.raised.is_flow (λ v. ltb 0 (word ranks v)) known
         (le-ltb 0 _ (omega (arith, c.sink)))
 
     most : (g : ℕ → ℕ) (x : ℕ) → IsFlow n g x → x ≤ w

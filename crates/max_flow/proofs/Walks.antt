@@ -9,8 +9,9 @@ use Rattle.flow.specs.Ways.{Way}
 use Rattle.flow.proofs.Ways.{Narrow, narrow_over, narrow_against, Pushing, now_over, now_against, pushing_over, pushing_against, pushing_ends, way_exists, way_back}
 use Rattle.max_flow.specs.declared.augment.Link.{Link}
 use Rattle.max_flow.specs.declared.nodes.Nodes.{Nodes}
+use Rattle.max_flow.specs.Raised.{Raised}
 use Rattle.max_flow.specs.Layout.{net_of, rank_in, link_in}
-use Rattle.max_flow.specs.Stages.{Raising, left, opens, moved, Moves, link_at, Pushed}
+use Rattle.max_flow.specs.Stages.{left, opens, moved, Moves, link_at, Pushed}
 use Rattle.max_flow.proofs.Keeping.{put_set}
 
 -- what holds of a link, by whether its arc begins at the node
@@ -65,7 +66,7 @@ module _ {N : _} {A : _} {b : _} (s : Nodes N A b) {node : ℕ} (ne : node ≡ 1
       (λ t. (x.head_in, back.0 t)) (λ nt. (x.tail_in, back.1 nt))
 
   -- while d more are pushed than the words `before` of value w had
-  module _ {before flow : List ℕ} {w d stop : ℕ} (r : Raising (net_of s) before w) (same : length flow ≡ length before)
+  module _ {before flow : List ℕ} {w d stop : ℕ} (r : Raised (net_of s) before w) (same : length flow ≡ length before)
       (x : Pushing (net_of s) (word before) (rank_in s) (link_in s) w d flow node stop) where
     pub moves_on : w + d < 2 ^ 64 → Moves l.way (word flow l.arc) d
     moves_on fits =
@@ -114,13 +115,13 @@ module _ {N : _} {A : _} {b : _} (s : Nodes N A b) {node : ℕ} (ne : node ≡ 1
         q
 
 pub pushed_in : {N : _} {A : _} {b : _} (s : Nodes N A b) {before flow : List ℕ} {w d node stop : ℕ}
-    → Raising (net_of s) before w → length flow ≡ length before → node ≡ 1
+    → Raised (net_of s) before w → length flow ≡ length before → node ≡ 1
     → Pushing (net_of s) (word before) (rank_in s) (link_in s) w d flow node stop → Pushed flow s (w + d) stop
 pushed_in {N} {A} {b} s {before} {flow} {w} {d} {node} {stop} r same at x =
     let e = pushing_ends (net_of s) (b.bounded s.network.now) (word before) (rank_in s) (link_in s) w d flow stop
     (subst (λ (v : ℕ). Pushing (net_of s) (word before) (rank_in s) (link_in s) w d flow v stop) at x) in
     record {
-      raising = record {
+      raised = record {
         whole = omega (arith, r.whole);
         finite = r.finite;
         is_flow = e.0;

@@ -4,6 +4,7 @@ use Rattle.std.specs.Prelude.{◌≡◌, ℕ, ◌+◌, cond, List, length, ◌==
 use Rattle.flow.specs.declared.network.Arc.{Arc}
 use Rattle.flow.specs.Nets.{Net, word}
 use Rattle.max_flow.specs.declared.nodes.Nodes.{Nodes}
+use Rattle.max_flow.specs.declared.raising.Raising.{Raising}
 
 -- four parts of m words
 pub record Parts (m : ℕ) (rank link place far : List ℕ) : Type 0 where
@@ -28,6 +29,12 @@ queue_in s i = word s.place.now i
 pub record Kept {N : _} {A : _} {b : _} (s s' : Nodes N A b) : Type 0 where
   pub same_network : s'.network ≡ s.network
   pub same_ranks : s'.rank.ghost_name ≡ s.rank.ghost_name
+
+-- the same of a flow that is being raised, with its words
+pub record KeptAll {N : _} {A : _} {b : _} (s s' : Raising N A b) : Type 0 where
+  pub nodes : Kept s.nodes.now s'.nodes.now
+  pub same_nodes : s'.nodes.ghost_name ≡ s.nodes.ghost_name
+  pub same_flow : s'.flow.ghost_name ≡ s.flow.ghost_name
 
 -- node v has been found over arc k, with `waiting` nodes in the queue before it: the sink gets the last of
 -- all ranks and does not wait

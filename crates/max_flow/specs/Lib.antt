@@ -1,3 +1,4 @@
+pub mod Raised
 pub mod Layout
 pub mod Stages
 pub mod Outcome

@@ -3,8 +3,7 @@ use Rattle.std.specs.Prelude.{◌≡◌, ℕ, ◌+◌, ◌-◌, ◌^◌, ◌<◌
 use Rattle.flow.specs.declared.network.Capacity.{Capacity}
 use Rattle.flow.specs.declared.visit.Way.{Way}
 use Rattle.flow.specs.declared.visit.Way.TheVariants.{Along, Back}
-use Rattle.flow.specs.Nets.{Net, IsFlow, NoneAbove, word}
-use Rattle.flow.specs.Cuts.{Finite}
+use Rattle.flow.specs.Nets.{Net, word}
 use Rattle.flow.specs.Answers.{capacity_at, has_room, room_left}
 use Rattle.flow.specs.Passing.{far}
 use Rattle.flow.specs.Ways.{Way as WayTo, Leads}
@@ -12,6 +11,7 @@ use Rattle.flow.specs.Searches.{Searching, Searched, unranked, Shut}
 use Rattle.max_flow.specs.declared.augment.Link.{Link}
 use Rattle.max_flow.specs.declared.deepen.Hit.{Hit}
 use Rattle.max_flow.specs.declared.nodes.Nodes.{Nodes}
+use Rattle.max_flow.specs.Raised.{Raised}
 use Rattle.max_flow.specs.Layout.{net_of, rank_in, link_in, queue_in, Kept}
 
 abbrev pub SearchingIn : {N : _} {A : _} {b : _} → (ℕ → ℕ) → Nodes N A b → ℕ → Type 0
@@ -38,13 +38,6 @@ pub record Begun {N : _} {A : _} {b : _} (s : Nodes N A b) : Type 0 where
   pub first : rank_in s 0 ≡ 1
   pub none : (v : ℕ) → v < (net_of s).nodes → (v ≢ 0) → rank_in s v ≡ 0
   pub waits : queue_in s 0 ≡ 0
-
--- the words are a flow of value w and none is above w, where no flow grows for ever
-pub record Raising (n : Net) (flow : List ℕ) (w : ℕ) : Type 0 where
-  pub whole : length flow ≡ n.arcs
-  pub finite : Finite n
-  pub is_flow : IsFlow n (word flow) w
-  pub none_above : NoneAbove n (word flow) w
 
 -- the links lead from u to the sink, and d more can go along them
 abbrev pub WayIn : {N : _} {A : _} {b : _} → List ℕ → Nodes N A b → ℕ → ℕ → Type 0
@@ -90,7 +83,7 @@ pub record Carried {N : _} {A : _} {b : _} (flow : List ℕ) (s : Nodes N A b) (
 
 -- the words are a flow of value w again, and from u on the way still stands
 pub record Pushed {N : _} {A : _} {b : _} (flow : List ℕ) (s : Nodes N A b) (w u : ℕ) : Type 0 where
-  pub raising : Raising (net_of s) flow w
+  pub raised : Raised (net_of s) flow w
   pub inside : u < (net_of s).nodes
   pub way : WayIn flow s 0 u
 
@@ -118,6 +111,6 @@ pub record Reaches (n : Net) (ranks : List ℕ) (found : Bool) : Type 0 where
 
 -- a flow of value w from which nothing leads to the sink, and the search that shows it
 pub record Climbed (n : Net) (flow ranks : List ℕ) (w : ℕ) : Type 0 where
-  pub raising : Raising n flow w
+  pub raised : Raised n flow w
   pub searched : (link : ℕ → ℕ) × Searched n (word flow) (word ranks) link
   pub sink : word ranks 1 ≡ 0

@@ -1,13 +1,15 @@
 // Augmentation: a way from the source to the sink is laid over links, and as much as it carries is pushed
 // along it. Ranks rise along a way, so no arc stands on it twice.
-ghost use Rattle.std.specs.Prelude.{◌≡◌, ℕ, ◌+◌, ◌<◌, ◌≤◌, ◌≢◌, length};
+ghost use Rattle.std.specs.Prelude.{◌≡◌, ℕ, ◌+◌, ◌<◌, ◌≤◌, ◌≢◌};
 ghost use Rattle.flow.specs.Nets.{Net, word};
 ghost use Rattle.flow.specs.Answers.{room_left};
 ghost use Rattle.flow.specs.Searches.{Found};
-ghost use Rattle.max_flow.specs.Layout.{net_of, rank_in, link_in, Kept, SameWays, far_end};
-ghost use Rattle.max_flow.specs.Stages.{Raising, WayIn, left, opens, moved, Moves, link_at, Carried, Pushed};
+ghost use Rattle.max_flow.specs.Layout.{net_of, rank_in, link_in, Kept, KeptAll, SameWays, far_end};
+ghost use Rattle.max_flow.specs.Raised.{Raised};
+ghost use Rattle.max_flow.specs.Stages.{WayIn, Stepped, left, opens, moved, Moves, link_at, Carried, Pushed};
 
 use crate::nodes::Nodes;
+use crate::raising::Raising;
 use flow::network::{Arc, Capacity, Network};
 use flow::questions::{has_room, look};
 use flow::visit::{Visit, Way};
@@ -72,13 +74,6 @@ pub struct Link {
     pub node: usize,
 }
 
-/// What an augmentation left: the value, and the node from which the way still stands.
-#[derive(Clone, Copy)]
-pub struct Augmented {
-    pub value: u64,
-    pub stop: usize,
-}
-
 impl<N: Network> Nodes<'_, N> {
     /// The arc by which the way goes on from a node.
     pub fn link_from(&self, node: usize) -> Link
@@ -104,27 +99,11 @@ impl<N: Network> Nodes<'_, N> {
         }
     }
 
-    /// The most that the way from the source carries, `MOST` at most.
-    fn narrowest(&self, flow: &[u64]) -> u64
-        requires flows { length flow.now ≡ (net_of self.now).arcs }
-        requires way { WayIn flow.now self.now 0 0 }
-        ensures { Carried flow.now self.now result }
-    {
-        let mut node = 0;
-        let mut least = MOST;
-        while node != 1 {
-            let link = self.link_from(node);
-            least = least.min(left(link.way, link.capacity, flow[link.arc]));
-            node = link.node;
-        }
-        least
-    }
-
     /// Pushes an amount along the way from the source. Answers the node nearest to the sink from which the
     /// way still stands: the arc before it is full now, if any is.
     fn push(&self, flow: &mut [u64], value: u64, amount: u64) -> usize
         requires way { WayIn flow.old self.now amount 0 }
-        requires raising { Raising (net_of self.now) flow.old value }
+        requires raised { Raised (net_of self.now) flow.old value }
         requires fits { value + amount < 9000000000000000000 }
         ensures { Pushed flow.new self.now (value + amount) result }
     {
@@ -140,21 +119,6 @@ impl<N: Network> Nodes<'_, N> {
             }
         }
         stop
-    }
-
-    /// Pushes as much as it carries along the way from the source.
-    pub fn augment(&self, flow: &mut [u64], value: u64) -> Augmented
-        requires way { WayIn flow.old self.now 0 0 }
-        requires raising { Raising (net_of self.now) flow.old value }
-        ensures more { value < result.value }
-        ensures pushed { Pushed flow.new self.now result.value result.stop }
-    {
-        let amount = self.narrowest(flow);
-        let stop = self.push(flow, value, amount);
-        Augmented {
-            value: value + amount,
-            stop,
-        }
     }
 
     /// The cursor past an arc among those that enter a node, if it is one of them.
@@ -204,5 +168,36 @@ impl<N: Network> Nodes<'_, N> {
             k = found;
             node = from;
         }
+    }
+}
+
+impl<N: Network> Raising<'_, '_, N> {
+    /// The most that the way from the source carries, `MOST` at most.
+    fn narrowest(&self) -> u64
+        requires { WayIn self.now.flow.now self.now.nodes.now 0 0 }
+        ensures { Carried self.now.flow.now self.now.nodes.now result }
+    {
+        let mut node = 0;
+        let mut least = MOST;
+        while node != 1 {
+            let link = self.nodes.link_from(node);
+            least = least.min(left(link.way, link.capacity, self.flow[link.arc]));
+            node = link.node;
+        }
+        least
+    }
+
+    /// Pushes as much as it carries along the way from the source. Answers the node from which the way still stands.
+    pub fn augment(&mut self) -> usize
+        requires { WayIn self.old.flow.now self.old.nodes.now 0 0 }
+        ensures kept { KeptAll self.old self.new }
+        ensures more { self.old.value < self.new.value }
+        ensures stop { Stepped self.new.flow.now self.new.nodes.now (Some result) }
+    {
+        let amount = self.narrowest();
+        let flow = &mut *self.flow;
+        let stop = self.nodes.push(flow, self.value, amount);
+        self.value += amount;
+        stop
     }
 }

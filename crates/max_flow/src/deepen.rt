@@ -1,10 +1,11 @@
 // Deepening: after a search, more ways are looked for in depth, from the sink back over arcs that come from
 // nodes of smaller rank. Each node keeps its place among its arcs, so that no arc is tried twice.
 ghost use Rattle.std.specs.Prelude.{◌≡◌, ℕ, ◌+◌, ◌<◌, ◌≤◌, ◌≢◌};
-ghost use Rattle.max_flow.specs.Layout.{net_of, Kept};
-ghost use Rattle.max_flow.specs.Stages.{Raising, WayIn, Stepped, Tried, Hits};
+ghost use Rattle.max_flow.specs.Layout.{net_of, Kept, KeptAll};
+ghost use Rattle.max_flow.specs.Stages.{WayIn, Stepped, Tried, Hits};
 
 use crate::nodes::Nodes;
+use crate::raising::Raising;
 use flow::network::Network;
 use flow::visit::{Visit, Way};
 
@@ -100,29 +101,28 @@ impl<N: Network> Nodes<'_, N> {
         }
         Some(self.retreat(flow, node))
     }
+}
 
-    /// Looks for ways in depth and augments along each, until the sink leads nowhere; the value then.
-    pub fn deepen(&mut self, flow: &mut [u64], value: u64) -> u64
-        requires raising { Raising (net_of self.old) flow.old value }
-        ensures kept { Kept self.old self.new }
-        ensures more { value ≤ result }
-        ensures raising { Raising (net_of self.new) flow.new result }
+impl<N: Network> Raising<'_, '_, N> {
+    /// Looks for ways in depth and augments along each, until the sink leads nowhere.
+    pub fn deepen(&mut self)
+        ensures kept { KeptAll self.old self.new }
+        ensures more { self.old.value ≤ self.new.value }
     {
-        self.place.fill(0);
-        let mut value = value;
+        let nodes = &mut *self.nodes;
+        nodes.place.fill(0);
         let mut node = 1;
-        for _ in 0..most_steps(self.network) {
+        for _ in 0..most_steps(self.nodes.network) {
             if node == 0 {
-                let done = self.augment(flow, value);
-                value = done.value;
-                node = done.stop;
-            } else if let Some(next) = self.step(flow, node) {
-                node = next;
-            } else {
-                break;
+                node = self.augment();
+                continue;
             }
+            let flow = &mut *self.flow;
+            let Some(next) = self.nodes.step(flow, node) else {
+                break;
+            };
+            node = next;
         }
-        value
     }
 }
 

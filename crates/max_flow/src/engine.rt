@@ -2,11 +2,12 @@
 ghost use Rattle.std.specs.Prelude.{◌≡◌, ℕ, ◌+◌, ◌*◌, ◌<◌, ◌≤◌, min, length, if◌then◌else◌, nat_lt, slice_index};
 ghost use Rattle.flow.specs.Nets.{Net};
 ghost use Rattle.flow.specs.Cuts.{Finite};
-ghost use Rattle.max_flow.specs.Layout.{Parts, net_of, Kept};
-ghost use Rattle.max_flow.specs.Stages.{Raising, Reaches, Climbed};
+ghost use Rattle.max_flow.specs.Layout.{Parts, net_of, Kept, KeptAll};
+ghost use Rattle.max_flow.specs.Stages.{Reaches, Climbed};
 ghost use Rattle.max_flow.specs.Outcome.{Solved, Outcome};
 
 use crate::nodes::Nodes;
+use crate::raising::Raising;
 use crate::start::Start;
 use flow::network::Network;
 use flow::unhindered::UnboundedOnly;
@@ -25,21 +26,44 @@ fn mark(nodes: &mut [u32], count: usize)
     rest.fill(0);
 }
 
+impl<N: Network> Raising<'_, '_, N> {
+    /// Raises the flow until the sink is not found. Quick rounds do nearly all of it, and the whole search shows
+    /// that nothing is left to do.
+    fn climb(&mut self, start: &Start)
+        ensures kept { KeptAll self.old self.new }
+        ensures climbed { Climbed (net_of self.new.nodes.now) self.new.flow.now self.new.nodes.now.rank.now self.new.value }
+    {
+        self.quick_rounds(start);
+        loop {
+            let flow = &mut *self.flow;
+            if !self.nodes.search(flow) {
+                return;
+            }
+            self.nodes.lay_way(flow);
+            self.augment();
+            self.deepen();
+        }
+    }
+}
+
 impl<N: Network> Nodes<'_, N> {
-    /// Raises a flow from none until the sink is not found; its value. Quick rounds do nearly all of it, and the
-    /// whole search shows that nothing is left to do.
-    fn climb(&mut self, start: &Start, flow: &mut [u64]) -> u64
-        requires raising { Raising (net_of self.old) flow.old 0 }
+    /// Raises a flow from none until the sink is not found; its value. The ranks are those that a search over
+    /// unbounded arcs alone has left.
+    fn raise(&mut self, flow: &mut [u64]) -> u64
+        requires flows { length flow.old ≡ (net_of self.old).arcs }
+        requires finite { Finite (net_of self.old) }
         ensures kept { Kept self.old self.new }
         ensures climbed { Climbed (net_of self.new) flow.new self.new.rank.now result }
     {
-        let mut value = self.quick_rounds(start, flow, 0);
-        while self.search(flow) {
-            self.lay_way(flow);
-            value = self.augment(flow, value).value;
-            value = self.deepen(flow, value);
-        }
-        value
+        let start = self.start();
+        flow.fill(0);
+        let mut raising = Raising {
+            nodes: self,
+            flow,
+            value: 0,
+        };
+        raising.climb(&start);
+        raising.value
     }
 }
 
@@ -86,9 +110,7 @@ fn raise<N: Network>(
         place,
         far,
     };
-    let start = nodes.start();
-    flow.fill(0);
-    nodes.climb(&start, flow)
+    nodes.raise(flow)
 }
 
 /// The maximum flow in words that are just enough; none where unbounded arcs alone lead to the sink.

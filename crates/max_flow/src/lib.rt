@@ -28,6 +28,7 @@ mod augment;
 mod deepen;
 pub mod engine;
 mod nodes;
+mod raising;
 mod rounds;
 mod search;
 mod start;

@@ -5,10 +5,10 @@
 // Nodes that unbounded arcs alone lead to are reached whatever the flow is. They keep the ranks of the first
 // search for good, and of them only those are asked again from which some arc leads to other nodes.
 ghost use Rattle.std.specs.Prelude.{◌≡◌, ◌<◌, ◌≤◌};
-ghost use Rattle.max_flow.specs.Layout.{net_of, Kept};
-ghost use Rattle.max_flow.specs.Stages.{Raising};
+ghost use Rattle.max_flow.specs.Layout.{net_of, Kept, KeptAll};
 
 use crate::nodes::Nodes;
+use crate::raising::Raising;
 use crate::start::Start;
 use flow::network::Network;
 use flow::visit::{Visit, Way};
@@ -99,24 +99,23 @@ impl<N: Network> Nodes<'_, N> {
         }
         self.rank[1] > 0
     }
+}
 
-    /// Raises a flow round by round, until the sink is not reached or no way is found; its value then.
-    pub fn quick_rounds(&mut self, start: &Start, flow: &mut [u64], value: u64) -> u64
-        requires raising { Raising (net_of self.old) flow.old value }
-        ensures kept { Kept self.old self.new }
-        ensures raising { Raising (net_of self.new) flow.new result }
+impl<N: Network> Raising<'_, '_, N> {
+    /// Raises the flow round by round, until the sink is not reached or no way is found.
+    pub fn quick_rounds(&mut self, start: &Start)
+        ensures { KeptAll self.old self.new }
     {
-        let mut value = value;
         for _ in 0..MOST_ROUNDS {
-            if !self.rank_anew(start, flow) {
+            let flow = &mut *self.flow;
+            if !self.nodes.rank_anew(start, flow) {
                 break;
             }
-            let raised = self.deepen(flow, value);
-            if raised == value {
+            let before = self.value;
+            self.deepen();
+            if self.value == before {
                 break;
             }
-            value = raised;
         }
-        value
     }
 }

@@ -27,6 +27,9 @@ raise-value-requires-clause-finite g c =
 pub returns : goal.returns
 returns g c =
     let x = c.args.network.now in
+    let none = ltb-false 0 (word c.search_in.new.rank 1) (sym c.if-search_in.ensures.sink) in
+    let t = c.search_in.ensures.searched in
     maximum (g.N.Network.net x) (g.N.Network.bounded x) c.raise-value.new.flow c.raise-value.new.rank _
     c.mark.new.nodes c.raise-value.result c.node_count-count.result c.node_count-count.ensures (search rules)
+    (unhindered_none (g.N.Network.net x) (λ k. 0) (word c.search_in.new.rank) t.0 t.1 (omega arith))
     c.raise-value.ensures (λ v l. get_or_append_left c.raise-value.new.rank _ 0 v (omega arith)) c.mark.ensures
