@@ -5,6 +5,8 @@ use Rattle.flow.specs.declared.network.Step.{Step}
 use Rattle.plan_theory.specs.TimeNetwork.{cut_to, here, next, lag_tail, lag_head, on_arc, back_arc, lag_arc, time_net}
 use Rattle.time_network.specs.declared.place.Place.{Place}
 use Rattle.time_network.specs.declared.place.Place.TheVariants.{Source, Sink, Inner}
+use Rattle.time_network.specs.declared.place.Row.{Row}
+use Rattle.time_network.specs.declared.place.Row.TheVariants.{On, Back}
 use Rattle.time_network.specs.declared.place.Side.{Side}
 use Rattle.time_network.specs.declared.place.Side.TheVariants.{AtSource, AtSink}
 use Rattle.time_network.specs.Seeking.{seek}
@@ -95,6 +97,15 @@ on_in m a t = record { arc = on_arc m a t; node = here m a t; next = 1 }
 abbrev pub back_in : Meaning → ℕ → ℕ → Step
 back_in m a t = record { arc = back_arc m a (t + 1); node = next m a (t + 1); next = next_ending m a 0 }
 
+-- the step along a row between point (a, t + 1) and the point before, and that between it and the point after
+abbrev pub before : Meaning → Row → ℕ → ℕ → Step
+before m On = on_in m
+before m Back = back_out m
+
+abbrev pub after : Meaning → Row → ℕ → ℕ → Step
+after m On = on_out m
+after m Back = back_in m
+
 abbrev pub entering_point : Meaning → ℕ → ℕ → ℕ → Option Step
 entering_point m a t c =
     cond (c == 0) (Some (on_in m a t))
@@ -145,6 +156,15 @@ abbrev pub entering_sink : Meaning → ℕ → Option Step
 entering_sink m c =
     cond (nat_lt c m.n) (step (on_arc m c (m.horizon - 1)) (here m c (m.horizon - 1)) (c + 1))
     (cut_step m AtSink (next_cut m AtSink (c - m.n)))
+
+-- those at either end: the arc of an activity, or the next of a lag
+abbrev pub entering_first : Meaning → Side → ℕ → Option Step
+entering_first m AtSource c = step (back_arc m c 0) (next m c 0) (c + 1)
+entering_first m AtSink c = step (on_arc m c (m.horizon - 1)) (here m c (m.horizon - 1)) (c + 1)
+
+abbrev pub entering_end : Meaning → Side → ℕ → Option Step
+entering_end m side c =
+    cond (nat_lt c m.n) (entering_first m side c) (cut_step m side (next_cut m side (c - m.n)))
 
 abbrev pub inward : Meaning → Place → ℕ → Option Step
 inward m Source c = entering_source m c

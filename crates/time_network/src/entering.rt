@@ -4,7 +4,7 @@ ghost use Rattle.time_network.specs.Meant.{meant};
 ghost use Rattle.time_network.specs.Listing as lists;
 
 use crate::held::TimeNetwork;
-use crate::place::{Point, Side};
+use crate::place::{Point, Row, Side};
 use flow::network::Step;
 
 impl TimeNetwork {
@@ -64,41 +64,24 @@ impl TimeNetwork {
         })
     }
 
-    /// Into the source: back from each activity's slot 1, and along lags to slots before the first.
-    pub(crate) fn entering_source(&self, cursor: usize) -> Option<Step>
-        ensures { result ≡ lists.entering_source (meant self.now) cursor }
+    /// Into the source: back from each activity's slot 1, and along lags to slots before the first. Into the sink:
+    /// on from each activity's last slot, and along lags to slots past the last.
+    pub(crate) fn entering_end(&self, side: Side, cursor: usize) -> Option<Step>
+        ensures { result ≡ lists.entering_end (meant self.now) side cursor }
     {
-        if cursor < self.activities {
-            let arc = self.back_arc(cursor, 0);
-            return Some(Step {
-                arc,
-                node: self.point(cursor, 1),
-                next: cursor + 1,
-            });
+        if cursor >= self.activities {
+            return self.cut_step(side, self.next_cut(side, cursor - self.activities));
         }
-        self.cut_step(
-            Side::AtSource,
-            self.next_cut(Side::AtSource, cursor - self.activities),
-        )
-    }
-
-    /// Into the sink: on from each activity's last slot, and along lags to slots past the last.
-    pub(crate) fn entering_sink(&self, cursor: usize) -> Option<Step>
-        ensures { result ≡ lists.entering_sink (meant self.now) cursor }
-    {
-        if cursor < self.activities {
-            let t = self.horizon - 1;
-            let arc = self.on_arc(cursor, t);
-            return Some(Step {
-                arc,
-                node: self.point(cursor, t),
-                next: cursor + 1,
-            });
-        }
-        self.cut_step(
-            Side::AtSink,
-            self.next_cut(Side::AtSink, cursor - self.activities),
-        )
+        let last = self.horizon - 1;
+        let (arc, node) = match side {
+            Side::AtSource => (self.back_arc(cursor, 0), self.point(cursor, 1)),
+            Side::AtSink => (self.on_arc(cursor, last), self.point(cursor, last)),
+        };
+        Some(Step {
+            arc,
+            node,
+            next: cursor + 1,
+        })
     }
 }
 
@@ -159,31 +142,6 @@ impl TimeNetwork {
         })
     }
 
-    fn on_into(&self, at: Point) -> Step
-        ensures { result ≡ lists.on_in (meant self.now) at.activity at.before }
-    {
-        let activity = at.activity as usize;
-        let t = at.before as usize;
-        Step {
-            arc: self.on_arc(activity, t),
-            node: self.point(activity, t),
-            next: 1,
-        }
-    }
-
-    fn back_into(&self, at: Point) -> Step
-        ensures { result ≡ lists.back_in (meant self.now) at.activity at.before }
-    {
-        let activity = at.activity as usize;
-        let t = at.before as usize + 1;
-        let next = 2 + self.ends.first[activity] as usize;
-        Step {
-            arc: self.back_arc(activity, t),
-            node: self.point(activity, t + 1),
-            next,
-        }
-    }
-
     fn lag_into(&self, at: Point, k: usize) -> Option<Step>
         ensures { result ≡ lists.entering_lag (meant self.now) at.activity at.before k }
     {
@@ -202,8 +160,8 @@ impl TimeNetwork {
             ≡ lists.entering_point (meant self.now) at.activity at.before cursor }
     {
         match cursor {
-            0 => Some(self.on_into(at)),
-            1 => Some(self.back_into(at)),
+            0 => Some(self.before(Row::On, at)),
+            1 => Some(self.after(Row::Back, at)),
             _ => self.lag_into(at, cursor - 2),
         }
     }

@@ -4,7 +4,7 @@ ghost use Rattle.time_network.specs.Meant.{meant};
 ghost use Rattle.time_network.specs.Listing as lists;
 
 use crate::held::TimeNetwork;
-use crate::place::Point;
+use crate::place::{Point, Row};
 use flow::network::Step;
 
 impl TimeNetwork {
@@ -50,28 +50,37 @@ impl TimeNetwork {
         })
     }
 
-    fn back_from(&self, at: Point) -> Step
-        ensures { result ≡ lists.back_out (meant self.now) at.activity at.before }
+    // The step along a row between a point and the point before.
+    pub(crate) fn before(&self, row: Row, at: Point) -> Step
+        ensures { result ≡ lists.before (meant self.now) row at.activity at.before }
     {
         let activity = at.activity as usize;
         let t = at.before as usize;
+        let arc = match row {
+            Row::On => self.on_arc(activity, t),
+            Row::Back => self.back_arc(activity, t),
+        };
         Step {
-            arc: self.back_arc(activity, t),
+            arc,
             node: self.point(activity, t),
             next: 1,
         }
     }
 
-    fn on_from(&self, at: Point) -> Step
-        ensures { result ≡ lists.on_out (meant self.now) at.activity at.before }
+    // The step along a row between a point and the point after; lags come next.
+    pub(crate) fn after(&self, row: Row, at: Point) -> Step
+        ensures { result ≡ lists.after (meant self.now) row at.activity at.before }
     {
         let activity = at.activity as usize;
         let t = at.before as usize + 1;
-        let next = 2 + self.leads.first[activity] as usize;
+        let (arc, lags) = match row {
+            Row::On => (self.on_arc(activity, t), &self.leads),
+            Row::Back => (self.back_arc(activity, t), &self.ends),
+        };
         Step {
-            arc: self.on_arc(activity, t),
+            arc,
             node: self.point(activity, t + 1),
-            next,
+            next: 2 + lags.first[activity] as usize,
         }
     }
 
@@ -101,8 +110,8 @@ impl TimeNetwork {
             ≡ lists.leaving_point (meant self.now) at.activity at.before cursor }
     {
         match cursor {
-            0 => Some(self.back_from(at)),
-            1 => Some(self.on_from(at)),
+            0 => Some(self.before(Row::Back, at)),
+            1 => Some(self.after(Row::On, at)),
             _ => self.lag_from(at, cursor - 2),
         }
     }

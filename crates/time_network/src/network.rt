@@ -5,7 +5,7 @@ ghost use Rattle.time_network.specs.Listing as lists;
 ghost use Rattle.time_network.specs.Answered.{net_adjacent};
 
 use crate::held::TimeNetwork;
-use crate::place::Place;
+use crate::place::{Place, Side};
 use flow::network::{Arc, Capacity, Network, Step};
 
 /// Each answer takes a fixed number of steps, but that an entering arc passes over lags that have none there.
@@ -66,8 +66,8 @@ impl Network for TimeNetwork {
 
     fn entering(&self, at: Place, cursor: usize) -> Option<Step> {
         match at {
-            Place::Source => self.entering_source(cursor),
-            Place::Sink => self.entering_sink(cursor),
+            Place::Source => self.entering_end(Side::AtSource, cursor),
+            Place::Sink => self.entering_end(Side::AtSink, cursor),
             Place::Inner(point) => self.entering_point(point, cursor),
         }
     }

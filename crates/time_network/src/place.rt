@@ -18,6 +18,13 @@ pub enum Place {
     Inner(Point),
 }
 
+/// The arcs of an activity: one on from each slot to the next, and one back.
+#[derive(Clone, Copy)]
+pub enum Row {
+    On,
+    Back,
+}
+
 /// An end of the network, where slots before the first and past the last are cut off.
 #[derive(Clone, Copy)]
 pub enum Side {
