@@ -19,7 +19,13 @@ pub fault : {V : Type 0} (f : Option Refusal) (v : V) (r : Refusal) → Err r �
 fault None v r e = absurd (let z : ◌≡◌ {A = ℕ} 0 1 = cc in omega arith)
 fault (Some s) v r e = cc
 
--- a part without a fault answers its value, one with a fault ends the reading
+-- a part without a fault is passed by, one with a fault ends the reading
+pub past : {V : Type 0} (f g : Option Refusal) (v : V) (r : Result V Refusal) → f ≡ None → r ≡ unless g v → r ≡ unless (or_else f g) v
+past f g v r clean rest = rest ∙ ap (λ o. unless (or_else o g) v) (sym clean)
+
+pub stops : {V : Type 0} (f g : Option Refusal) (v : V) (r : Refusal) → f ≡ Some r → Err r ≡ unless (or_else f g) v
+stops f g v r bad = ap (λ o. unless (or_else o g) v) (sym bad)
+
 pub fails : {V : Type 0} (f : Option Refusal) (v : V) (r : Refusal) → f ≡ Some r → Err r ≡ unless f v
 fails f v r bad = ap (λ o. unless o v) (sym bad)
 
