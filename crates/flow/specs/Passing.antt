@@ -8,6 +8,11 @@ abbrev pub turned_way : Way → Way
 turned_way Along = Back
 turned_way Back = Along
 
+-- the one thing or the other
+abbrev pub by_way : {T : Type 0} → Way → T → T → T
+by_way Along x y = x
+by_way Back x y = y
+
 -- the end at which an arc is passed first, and the end that it leads to
 abbrev pub near : Net → Way → ℕ → ℕ
 near n Along k = n.tail k

@@ -1,9 +1,11 @@
 // Visits to the nodes of any network, to ask about their arcs: an arc that is told of exists, and its ends are
 // nodes.
-ghost use Rattle.std.specs.Prelude.{◌≡◌, ℕ, ◌<◌};
+ghost use Rattle.std.specs.Prelude.{◌≡◌, ℕ, ◌-◌, ◌<◌, nat_lt, if◌then◌else◌, None, IfSome};
+ghost use Rattle.std.specs.Iterator.{at_most};
 
 use crate::network::{Network, Step};
 use crate::questions::{room_on, word_at};
+use std::ops::Range;
 
 /// How an arc is passed: along it over capacity left, or back over its flow.
 #[derive(Clone, Copy, PartialEq, Eq, Debug)]
@@ -38,7 +40,7 @@ pub struct Visit<'a, N: Network> {
 
 impl<'a, N: Network> Visit<'a, N> {
     ghost use Rattle.flow.specs.Nets.{word};
-    ghost use Rattle.flow.specs.Passing.{near, far, passes};
+    ghost use Rattle.flow.specs.Passing.{near, far, passes, by_way};
     ghost use Rattle.flow.specs.Answers.{Asked};
 
     /// Begins a visit.
@@ -54,9 +56,26 @@ impl<'a, N: Network> Visit<'a, N> {
         }
     }
 
+    /// The steps over the arcs that lead on from the node one way, at a range of cursors.
+    pub fn steps<'v>(&'v self, way: Way, cursors: Range<usize>) -> Steps<'v, 'a, N>
+        ensures visit { result.visit.now ≡ self.now }
+        ensures way { result.way ≡ way }
+        ensures cursor { result.cursor ≡ cursors.start }
+        ensures end { result.end ≡ cursors.end }
+    {
+        Steps {
+            visit: self,
+            way,
+            cursor: cursors.start,
+            end: cursors.end,
+        }
+    }
+
     /// The next arc that leads on from the node one way, from a cursor on.
-    pub fn next(&self, way: Way, cursor: usize) -> Option<Step>
-        ensures { Asked (N.net self.now.network.now)
+    fn next(&self, way: Way, cursor: usize) -> Option<Step>
+        ensures value { result ≡ by_way way (N.outward self.now.network.now self.now.at cursor)
+            (N.inward self.now.network.now self.now.at cursor) }
+        ensures asked { Asked (N.net self.now.network.now)
             (near (N.net self.now.network.now) way) (far (N.net self.now.network.now) way)
             self.now.node cursor result }
     {
@@ -75,5 +94,39 @@ impl<'a, N: Network> Visit<'a, N> {
             Way::Along => room_on(self.network, flow, k),
             Way::Back => word_at(flow, k) > 0,
         }
+    }
+}
+
+/// Steps over the arcs at a node, from a cursor on.
+#[derive(Drop)]
+pub struct Steps<'v, 'a, N: Network> {
+    visit: &'v Visit<'a, N>,
+    way: Way,
+    cursor: usize,
+    end: usize,
+}
+
+impl<N: Network> Iterator for Steps<'_, '_, N> {
+    ghost use Rattle.flow.specs.Passing.{near, far, by_way};
+    ghost use Rattle.flow.specs.Answers.{Asked};
+
+    type Item = Step;
+
+    ghost next_gives = { λ s r t. Asked (N.net s.visit.now.network.now)
+        (near (N.net s.visit.now.network.now) s.way) (far (N.net s.visit.now.network.now) s.way)
+        s.visit.now.node s.cursor r × (t.visit ≡ s.visit) × (t.way ≡ s.way) × (t.end ≡ s.end)
+        × (r ≡ (if nat_lt s.cursor s.end then by_way s.way (N.outward s.visit.now.network.now s.visit.now.at s.cursor)
+        (N.inward s.visit.now.network.now s.visit.now.at s.cursor) else None))
+        × IfSome r (λ x. t.cursor ≡ x.next) };
+
+    ghost remaining = { λ s. at_most (1000000 - s.cursor) };
+
+    fn next(&mut self) -> Option<Step> {
+        if self.cursor >= self.end {
+            return None;
+        }
+        let step = self.visit.next(self.way, self.cursor)?;
+        self.cursor = step.next;
+        Some(step)
     }
 }

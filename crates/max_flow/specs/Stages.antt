@@ -1,5 +1,5 @@
 -- What the stages of the engine hand on to one another, over lent words.
-use Rattle.std.specs.Prelude.{◌≡◌, ℕ, ◌+◌, ◌-◌, ◌^◌, ◌<◌, ◌≤◌, Bool, cond, nat_lt, List, length, Some, None, Option, ◌==◌, ◌≢◌}
+use Rattle.std.specs.Prelude.{◌≡◌, ℕ, ◌+◌, ◌-◌, ◌^◌, ◌<◌, ◌≤◌, Bool, cond, nat_lt, List, Some, None, Option, ◌==◌, ◌≢◌}
 use Rattle.flow.specs.declared.network.Capacity.{Capacity}
 use Rattle.flow.specs.declared.visit.Way.{Way}
 use Rattle.flow.specs.declared.visit.Way.TheVariants.{Along, Back}

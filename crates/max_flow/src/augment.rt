@@ -126,12 +126,10 @@ impl<N: Network> Nodes<'_, N> {
         requires { node < (net_of self.now).nodes }
     {
         let visit = Visit::new(self.network, node);
-        let mut cursor = 0;
-        while let Some(step) = visit.next(Way::Back, cursor) {
+        for step in visit.steps(Way::Back, 0..usize::MAX) {
             if step.arc == k {
                 return Some(step.next as u32);
             }
-            cursor = step.next;
         }
         None
     }

@@ -28,7 +28,7 @@ impl<N: Network> Nodes<'_, N> {
         let visit = Visit::new(self.network, node);
         let rank = self.rank[node];
         let mut cursor = cursor;
-        while let Some(step) = visit.next(way.turned(), cursor) {
+        for step in visit.steps(way.turned(), cursor..usize::MAX) {
             let from = self.rank[step.node];
             if from > 0 && from < rank && visit.passes(way, flow, step.arc) {
                 return Some(Hit {

@@ -22,12 +22,10 @@ impl<N: Network> Nodes<'_, N> {
         requires { node < (net_of self.now).nodes }
     {
         let visit = Visit::new(self.network, node);
-        let mut cursor = 0;
-        while let Some(step) = visit.next(Way::Along, cursor) {
+        for step in visit.steps(Way::Along, 0..usize::MAX) {
             if self.rank[step.node] == 0 {
                 return true;
             }
-            cursor = step.next;
         }
         false
     }
@@ -65,14 +63,10 @@ impl<N: Network> Nodes<'_, N> {
     {
         let end = self.cursor_end(visit.node, way);
         let mut waiting = waiting;
-        let mut cursor = 0;
-        while cursor < end
-            && let Some(step) = visit.next(way, cursor)
-        {
+        for step in visit.steps(way, 0..end) {
             if self.rank[step.node] == 0 && visit.passes(way, flow, step.arc) {
                 waiting = self.rank_node(waiting, step.node);
             }
-            cursor = step.next;
         }
         waiting
     }

@@ -40,14 +40,10 @@ impl<N: Network> Nodes<'_, N> {
     {
         let end = self.cursor_end(visit.node, way);
         let mut waiting = waiting;
-        let mut cursor = 0;
-        while cursor < end
-            && let Some(step) = visit.next(way, cursor)
-        {
+        for step in visit.steps(way, 0..end) {
             if self.rank[step.node] == 0 && visit.passes(way, flow, step.arc) {
                 waiting = self.find(waiting, step.node, step.arc);
             }
-            cursor = step.next;
         }
         waiting
     }

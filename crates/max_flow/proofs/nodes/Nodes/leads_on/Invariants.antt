@@ -1,5 +1,5 @@
-use Rattle.std.proofs.Common.{◌-◌}
+use Rattle.std.proofs.Common.{◌≡◌}
 use Rattle.max_flow.proofs.nodes.Nodes.leads_on.Given as goal
 
-abbrev pub decreases-loop-step : goal.decreases-loop-step
-decreases-loop-step g l = 1000000 - l.cursor
+abbrev pub invariant-loop-step : goal.invariant-loop-step
+invariant-loop-step g l = l.step-iterator.visit.now.network ≡ l.self.network

@@ -1,5 +1,0 @@
-use Rattle.std.proofs.Common.{◌-◌}
-use Rattle.max_flow.proofs.nodes.Nodes.cursor_past.Given as goal
-
-abbrev pub decreases-loop-step : goal.decreases-loop-step
-decreases-loop-step g l = 1000000 - l.cursor
