@@ -5,7 +5,7 @@ ghost use Rattle.model.specs.Meaning.{price_of};
 ghost use Rattle.model.specs.Starts.{floor};
 ghost use Rattle.model.specs.Chosen.{Meets};
 ghost use Rattle.flow.specs.Sums.{sum_to};
-ghost use Rattle.certificate.specs.Faults.{unless, arcs_of, most, word_fault, words_fault};
+ghost use Rattle.certificate.specs.Faults.{unless, arcs_of, most, words_fault};
 ghost use Rattle.certificate.specs.Sums.{FloorsOf, above_floors, above_if_open};
 
 use model::floors::floor_of;
@@ -27,12 +27,13 @@ pub struct Floors<'a, P: Project> {
 }
 
 impl<'a, P: Project> Floors<'a, P> {
+    /// The floors of a project.
     pub fn of(project: &'a P) -> Self
         ensures { result.project.now ≡ project.now }
     {
         let mut floors = [0; 64];
-        for a in 0..project.count() {
-            floors[a as usize] = floor_of(project, a);
+        for (a, floor) in floors.iter_mut().enumerate() {
+            *floor = floor_of(project, a as u16);
         }
         Floors { project, floors }
     }
@@ -63,25 +64,15 @@ impl<'a, P: Project> Floors<'a, P> {
             .unwrap_or(WORD_LIMIT)
     }
 
-    fn check_word(&self, flow: &[u64], arc: usize) -> Result<(), Refusal>
-        requires enough { arcs_of (P.meaning self.now.project.now) ≤ length flow.now }
-        requires placed { arc < arcs_of (P.meaning self.now.project.now) }
-        ensures { result ≡ unless (word_fault (P.meaning self.now.project.now) flow.now arc) }
-    {
-        if flow[arc] <= self.most(arc) {
-            Ok(())
-        } else {
-            Err(Fault::WordAbove.at(arc as u16))
-        }
-    }
-
     /// No word lies above what its arc can carry, or the least arc whose word does.
     pub fn check_words(&self, flow: &[u64]) -> Result<(), Refusal>
         requires { arcs_of (P.meaning self.now.project.now) ≤ length flow.now }
         ensures { result ≡ unless (words_fault (P.meaning self.now.project.now) flow.now) }
     {
-        for arc in 0..flow_words(self.project) {
-            self.check_word(flow, arc)?;
+        for (arc, word) in flow[..flow_words(self.project)].iter().enumerate() {
+            if *word > self.most(arc) {
+                return Err(Fault::WordAbove.at(arc as u16));
+            }
         }
         Ok(())
     }

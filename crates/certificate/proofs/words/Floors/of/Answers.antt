@@ -10,11 +10,11 @@ loop-a-init g c = (refl, λ k l. absurd (omega arith))
 pub loop-a-preserved : goal.loop-a-preserved
 loop-a-preserved g c =
     let m = g.P.Project.meaning c.args.project.now in
-    let low = c.loop-a.floors in
+    let low = c.loop-a.floor-items in
     let a = c.loop-a.a in
     let same : floor m a ≡ to_z w32 (of_z w32 c.floor_of.result) =
     sym (to_z-of_z w32 c.floor_of.result (record { sfits = c.floor_of.type_inv }) ∙ c.floor_of.ensures) in
-    let in_room : a < length low = omega (arith, (g.P.Project.bounded c.args.project.now).n_high) in
+    let in_room : a < length low = omega arith in
     subst
     (λ (z : ℤ).
     (length (set low a z) ≡ 64)
@@ -24,9 +24,7 @@ loop-a-preserved g c =
 
 pub invariant_of-result : goal.invariant_of-result
 invariant_of-result g c =
+    let few = (g.P.Project.bounded c.args.project.now).n_high in
     record {
-      floored = record {
-        room = omega (arith, (g.P.Project.bounded c.args.project.now).n_high);
-        each_floor = λ a l. c.loop-a.invariant.1 a (omega arith);
-      };
+      floored = record { room = omega arith; each_floor = λ a l. c.loop-a.invariant.1 a (omega arith) };
     }

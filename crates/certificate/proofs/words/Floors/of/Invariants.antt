@@ -4,5 +4,5 @@ use Rattle.certificate.proofs.words.Floors.of.Given as goal
 
 abbrev pub invariant-loop-a : goal.invariant-loop-a
 invariant-loop-a g l =
-    (length l.floors ≡ 64)
-    × ((k : ℕ) → k < l.a → get_or l.floors k (pos 0) ≡ floor (g.P.Project.meaning l.project) k)
+    (length l.floor-items ≡ 64)
+    × ((k : ℕ) → k < l.a → get_or l.floor-items k (pos 0) ≡ floor (g.P.Project.meaning l.project) k)
