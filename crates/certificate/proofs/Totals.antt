@@ -1,4 +1,4 @@
--- Sums of what a closure answers over the numbers below n: none here has more than 384 terms.
+-- Sums of what a closure answers over the numbers below n.
 use Rattle.std.proofs.Common.{◌≡◌, ℕ, zero, suc, ◌+◌, ◌*◌, ◌^◌, ◌<◌, ◌≤◌, List, map, refl, ap, ◌∙◌, arith, add-one}
 use Rattle.std.specs.Bool.{⊤}
 use Rattle.std.specs.Fn.{Called}
@@ -14,6 +14,7 @@ use Rattle.std.proofs.lemmas.Iterator.{YieldsList, YieldsList-from_range, Yields
 use Rattle.std.proofs.lemmas.Iterator.Adapters.{at_most_from_yields_List, fits_from_length, total_from_yields_List}
 use Rattle.std.proofs.lemmas.List.FromFn.{sum_by-map-range_with_len_more, length-range_with_len}
 use Rattle.flow.specs.Sums.{sum_to}
+use Rattle.certificate.specs.Sums.{most_terms}
 
 sum_of_range : (f : ℕ → ℕ) (n : ℕ) → sum (map f (range_with_len 0 n)) ≡ sum_to f n
 sum_of_range f zero = refl
@@ -37,18 +38,18 @@ module _ {F : Type 0} {s : Map (Range ℕ) F} {g : Mut F (ℕ × Unit {0}) ℕ} 
       ∙ sum_of_range h n
 
   -- and none of its answers is above a limit
-  module _ (few : n ≤ 384) (limit : ℕ)
+  module _ (few : n ≤ most_terms) (limit : ℕ)
       (k : (x v : ℕ) (q : F) → Called g f (x, tt) v q → (q ≡ f) × (v ≤ limit)) where
-    sums_low : EachRunFrom (maps nat_range_steps g) s (λ p. fold (λ a x. a + x) 0 p.items < 384 * limit + 1)
+    sums_low : EachRunFrom (maps nat_range_steps g) s (λ p. fold (λ a x. a + x) 0 p.items < most_terms * limit + 1)
     sums_low =
-        fits_from_length g f 384 (384 * limit + 1)
+        fits_from_length g f most_terms (most_terms * limit + 1)
         (at_most_from_yields_List (numbers n source) (omega (arith, length-range_with_len 0 n))) callee
         (omega arith) (λ x v q y. let z = k x v q y in (z.0, omega arith))
 
-    pub sum_fits : 384 * limit < 2 ^ 64
+    pub sum_fits : most_terms * limit < 2 ^ 64
         → EachRunFrom (maps nat_range_steps g) s (λ p. fold (λ a x. a + x) 0 p.items < 2 ^ 64)
     sum_fits small = λ p seen at. omega (arith, sums_low p seen at)
 
     pub sum_low : (r : ℕ) → WholeRun (maps nat_range_steps g) s (λ p. r ≡ fold (λ a x. a + x) 0 p.items)
-        → r ≤ 384 * limit
+        → r ≤ most_terms * limit
     sum_low r run = omega (arith, run.3, sums_low run.0 run.0.seen run.1)

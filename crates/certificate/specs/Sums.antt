@@ -14,6 +14,10 @@ use Rattle.certificate.specs.Faults.{arcs_of, word_limit}
 abbrev pub rows_of : Meaning → ℕ
 rows_of m = 2 * m.n + m.lags
 
+-- no project has more rows, so no sum here has more terms
+abbrev pub most_terms : ℕ
+most_terms = 384
+
 -- there is a word for each arc, and none is above the limit
 pub record Carried (m : Meaning) (flow : List ℕ) : Type 0 where
   pub long : arcs_of m ≤ length flow

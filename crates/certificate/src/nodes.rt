@@ -3,7 +3,7 @@ ghost use Rattle.std.specs.Prelude.{◌≡◌, ◌+◌, ◌*◌, ◌<◌, ◌≤
 ghost use Rattle.flow.specs.Sums.{sum_to};
 ghost use Rattle.flow.specs.Nets.{word};
 ghost use Rattle.plan_theory.specs.TimeNetwork.{lag_arc};
-ghost use Rattle.certificate.specs.Sums.{Carried, rows_of, lag_out, lag_in, out_of, in_to};
+ghost use Rattle.certificate.specs.Sums.{Carried, rows_of, most_terms, lag_out, lag_in, out_of, in_to};
 ghost use Rattle.certificate.specs.Faults.{unless, word_limit, inner_nodes, node_fault, nodes_fault};
 
 use crate::starts::lag_at;
@@ -84,9 +84,8 @@ impl<P: Project> Point<'_, P> {
     // What one lag takes away.
     fn lag_from(&self, number: u16) -> u64
         requires { number < (P.meaning self.now.rows.now.project.now).lags }
-        ensures value { result
-            ≡ lag_out (P.meaning self.now.rows.now.project.now) self.now.rows.now.flow.now
-            self.now.activity self.now.slot number }
+        ensures value { let rows = self.now.rows.now in
+            result ≡ lag_out (P.meaning rows.project.now) rows.flow.now self.now.activity self.now.slot number }
         ensures low { result ≤ word_limit }
     {
         if lag_at(self.rows.project, number).from as u16 == self.activity {
@@ -98,10 +97,10 @@ impl<P: Project> Point<'_, P> {
 
     // What the lags take away.
     fn lags_from(&self) -> u64
-        ensures value { result
-            ≡ sum_to (lag_out (P.meaning self.now.rows.now.project.now) self.now.rows.now.flow.now
-            self.now.activity self.now.slot) (P.meaning self.now.rows.now.project.now).lags }
-        ensures low { result ≤ 49152000000000 }
+        ensures value { let rows = self.now.rows.now in
+            let m = P.meaning rows.project.now in
+            result ≡ sum_to (lag_out m rows.flow.now self.now.activity self.now.slot) m.lags }
+        ensures low { result ≤ most_terms * word_limit }
     {
         (0..self.rows.project.lag_count())
             .map(|k| self.lag_from(k))
@@ -111,9 +110,8 @@ impl<P: Project> Point<'_, P> {
     // What one lag brings: its arc comes from the slot that lies its gap before.
     fn lag_to(&self, number: u16) -> u64
         requires { number < (P.meaning self.now.rows.now.project.now).lags }
-        ensures value { result
-            ≡ lag_in (P.meaning self.now.rows.now.project.now) self.now.rows.now.flow.now
-            self.now.activity self.now.slot number }
+        ensures value { let rows = self.now.rows.now in
+            result ≡ lag_in (P.meaning rows.project.now) rows.flow.now self.now.activity self.now.slot number }
         ensures low { result ≤ word_limit }
     {
         let lag = lag_at(self.rows.project, number);
@@ -129,10 +127,10 @@ impl<P: Project> Point<'_, P> {
 
     // What the lags bring.
     fn lags_to(&self) -> u64
-        ensures value { result
-            ≡ sum_to (lag_in (P.meaning self.now.rows.now.project.now) self.now.rows.now.flow.now
-            self.now.activity self.now.slot) (P.meaning self.now.rows.now.project.now).lags }
-        ensures low { result ≤ 49152000000000 }
+        ensures value { let rows = self.now.rows.now in
+            let m = P.meaning rows.project.now in
+            result ≡ sum_to (lag_in m rows.flow.now self.now.activity self.now.slot) m.lags }
+        ensures low { result ≤ most_terms * word_limit }
     {
         (0..self.rows.project.lag_count())
             .map(|k| self.lag_to(k))
@@ -141,27 +139,23 @@ impl<P: Project> Point<'_, P> {
 
     // What leaves it.
     fn sends(&self) -> u64
-        ensures { result
-            ≡ out_of (P.meaning self.now.rows.now.project.now) self.now.rows.now.flow.now
-            self.now.activity self.now.slot }
+        ensures { let rows = self.now.rows.now in
+            result ≡ out_of (P.meaning rows.project.now) rows.flow.now self.now.activity self.now.slot }
     {
-        let on = self.rows.row_word(self.activity, self.slot);
-        let back = self
-            .rows
-            .row_word(self.rows.project.count() + self.activity, self.slot - 1);
+        let rows = self.rows;
+        let on = rows.row_word(self.activity, self.slot);
+        let back = rows.row_word(rows.project.count() + self.activity, self.slot - 1);
         on + back + self.lags_from()
     }
 
     // What enters it.
     fn gets(&self) -> u64
-        ensures { result
-            ≡ in_to (P.meaning self.now.rows.now.project.now) self.now.rows.now.flow.now
-            self.now.activity self.now.slot }
+        ensures { let rows = self.now.rows.now in
+            result ≡ in_to (P.meaning rows.project.now) rows.flow.now self.now.activity self.now.slot }
     {
-        let on = self.rows.row_word(self.activity, self.slot - 1);
-        let back = self
-            .rows
-            .row_word(self.rows.project.count() + self.activity, self.slot);
+        let rows = self.rows;
+        let on = rows.row_word(self.activity, self.slot - 1);
+        let back = rows.row_word(rows.project.count() + self.activity, self.slot);
         on + back + self.lags_to()
     }
 }

@@ -1,10 +1,10 @@
 // The value of the flow of a proposed plan.
-ghost use Rattle.std.specs.Prelude.{◌≡◌, ◌+◌, ◌*◌, ◌<◌, ◌≤◌};
+ghost use Rattle.std.specs.Prelude.{◌≡◌, ◌+◌, ◌*◌, ◌^◌, ◌<◌, ◌≤◌};
 ghost use Rattle.flow.specs.Sums.{sum_to};
 ghost use Rattle.flow.specs.Nets.{word, inflow, outflow};
 ghost use Rattle.plan_theory.specs.TimeNetwork.{time_net};
 ghost use Rattle.certificate.specs.Faults.{unless, word_limit, worth_fault};
-ghost use Rattle.certificate.specs.Sums.{rows_of, first_words, word_to_source, lag_to_source};
+ghost use Rattle.certificate.specs.Sums.{rows_of, most_terms, first_words, word_to_source, lag_to_source};
 
 use crate::nodes::Rows;
 use crate::starts::lag_at;
@@ -16,7 +16,7 @@ impl<P: Project> Rows<'_, P> {
     fn first_words(&self, row: u16, rows: u16) -> u64
         requires { row + rows ≤ rows_of (P.meaning self.now.project.now) }
         ensures value { result ≡ first_words self.now.flow.now (P.meaning self.now.project.now).horizon row rows }
-        ensures low { result ≤ 49152000000000 }
+        ensures low { result ≤ most_terms * word_limit }
     {
         (0..rows).map(|i| self.row_word(row + i, 0)).sum()
     }
@@ -29,16 +29,17 @@ impl<P: Project> Rows<'_, P> {
         ensures low { result ≤ word_limit }
     {
         if slot as i32 + lag_at(self.project, number).gap as i32 > 0 {
-            return 0;
+            0
+        } else {
+            self.lag_word(number, slot)
         }
-        self.lag_word(number, slot)
     }
 
     // What a lag brings to the source.
     fn lag_to_source(&self, number: u16) -> u64
         requires { number < (P.meaning self.now.project.now).lags }
         ensures value { result ≡ lag_to_source (P.meaning self.now.project.now) self.now.flow.now number }
-        ensures low { result ≤ 49152000000000 }
+        ensures low { result ≤ most_terms * word_limit }
     {
         (0..self.project.horizon())
             .map(|t| self.word_to_source(number, t))
@@ -47,10 +48,9 @@ impl<P: Project> Rows<'_, P> {
 
     // What the lags bring to the source.
     fn lags_to_source(&self) -> u64
-        ensures value { result
-            ≡ sum_to (lag_to_source (P.meaning self.now.project.now) self.now.flow.now)
-            (P.meaning self.now.project.now).lags }
-        ensures low { result ≤ 18874368000000000 }
+        ensures value { let m = P.meaning self.now.project.now in
+            result ≡ sum_to (lag_to_source m self.now.flow.now) m.lags }
+        ensures low { result ≤ most_terms * (most_terms * word_limit) }
     {
         (0..self.project.lag_count())
             .map(|k| self.lag_to_source(k))
@@ -77,7 +77,7 @@ impl<P: Project> Rows<'_, P> {
 
     /// The source sends more than it gets by what the starts cost above the floors, or it is a fault.
     pub fn check_value(&self, above: u64) -> Result<(), Refusal>
-        requires { above ≤ 1649267441664 }
+        requires { above ≤ most_terms * 2 ^ 32 }
         ensures { result ≡ unless (worth_fault (P.meaning self.now.project.now) self.now.flow.now above) }
     {
         if self.source_sends() == self.source_gets() + above {

@@ -1,12 +1,12 @@
 // The flow words of a proposed plan: none above what its arc can carry.
-ghost use Rattle.std.specs.Prelude.{◌≡◌, ◌<◌, ◌≤◌, length};
+ghost use Rattle.std.specs.Prelude.{◌≡◌, ◌*◌, ◌^◌, ◌<◌, ◌≤◌, length};
 ghost use Rattle.std.specs.Option.{unwrap_or};
 ghost use Rattle.model.specs.Meaning.{price_of};
 ghost use Rattle.model.specs.Starts.{floor};
 ghost use Rattle.model.specs.Chosen.{Meets};
 ghost use Rattle.flow.specs.Sums.{sum_to};
 ghost use Rattle.certificate.specs.Faults.{unless, arcs_of, most, words_fault};
-ghost use Rattle.certificate.specs.Sums.{FloorsOf, above_floors, above_if_open};
+ghost use Rattle.certificate.specs.Sums.{FloorsOf, most_terms, above_floors, above_if_open};
 
 use model::floors::floor_of;
 use model::price::Price;
@@ -41,10 +41,9 @@ impl<'a, P: Project> Floors<'a, P> {
     // What an open price lies above the floor; nothing where the slot is not open.
     fn above(&self, activity: u16, slot: u16) -> Option<u64>
         requires { activity < (P.meaning self.now.project.now).n }
-        ensures value { result
-            ≡ above_if_open (floor (P.meaning self.now.project.now) activity)
-            (price_of (P.meaning self.now.project.now) activity slot) }
-        ensures low { unwrap_or result 0 ≤ 4294967296 }
+        ensures value { let m = P.meaning self.now.project.now in
+            result ≡ above_if_open (floor m activity) (price_of m activity slot) }
+        ensures low { unwrap_or result 0 ≤ 2 ^ 32 }
     {
         match self.project.price(activity, Slot(slot)) {
             Some(Price::Open(price)) => Some(price.abs_diff(self.floors[activity as usize]) as u64),
@@ -80,8 +79,9 @@ impl<'a, P: Project> Floors<'a, P> {
     /// What starts that meet the project cost above the floors.
     pub fn cost_above(&self, starts: &[u8]) -> u64
         requires { Meets (P.meaning self.now.project.now) starts.now }
-        ensures value { result ≡ sum_to (above_floors (P.meaning self.now.project.now) starts.now) (P.meaning self.now.project.now).n }
-        ensures low { result ≤ 1649267441664 }
+        ensures value { let m = P.meaning self.now.project.now in
+            result ≡ sum_to (above_floors m starts.now) m.n }
+        ensures low { result ≤ most_terms * 2 ^ 32 }
     {
         (0..self.project.count())
             .map(|a| self.above(a, starts[a as usize] as u16).unwrap_or(0))

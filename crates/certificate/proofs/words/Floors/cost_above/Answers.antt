@@ -1,4 +1,4 @@
-use Rattle.std.proofs.Common.{ℕ, unwrap_or, ◌∙◌, arith, rules}
+use Rattle.std.proofs.Common.{ℕ, ◌^◌, unwrap_or, ◌∙◌, arith, rules}
 use Rattle.model.specs.Meaning.{price_of}
 use Rattle.model.specs.Starts.{start, floor}
 use Rattle.certificate.specs.Sums.{above_if_open}
@@ -9,7 +9,7 @@ use Rattle.certificate.proofs.words.Floors.cost_above.Goals as goal
 pub sum-requires-clause-fits : goal.sum-requires-clause-fits
 sum-requires-clause-fits g c =
     let few = (g.P.Project.bounded c.args.self.now.project.now).n_high in
-    sum_fits c.count.result c.map.ensures.source c.map.ensures.closure (omega arith) 4294967296 (λ x v q k. search rules) (omega arith)
+    sum_fits c.count.result c.map.ensures.source c.map.ensures.closure (omega arith) (2 ^ 32) (λ x v q k. search rules) (omega arith)
 
 pub returns : goal.returns
 returns g c =
@@ -22,5 +22,5 @@ returns g c =
           sum_value c.count.result c.map.ensures.source c.map.ensures.closure h c.sum.result c.sum.ensures.ran (λ x v q k. search rules)
           ∙ costs_same m s c.requires c.count.result c.count.ensures;
       low =
-          sum_low c.count.result c.map.ensures.source c.map.ensures.closure (omega arith) 4294967296 (λ x v q k. search rules) c.sum.result (c.sum.ensures.runs tt);
+          sum_low c.count.result c.map.ensures.source c.map.ensures.closure (omega arith) (2 ^ 32) (λ x v q k. search rules) c.sum.result (c.sum.ensures.runs tt);
     }
