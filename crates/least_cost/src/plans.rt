@@ -55,6 +55,7 @@ fn settle<P: Project>(
     Ok(value)
 }
 
+// The three memories are lent one by one: a struct of them would be packed here to be taken apart below.
 fn plan<P: Project>(
     side: Side,
     project: &P,
