@@ -292,6 +292,10 @@ module _ (m : Meaning) (f : List ℕ) (some : 0 < m.horizon) where
       (point_source m.horizon (m.lag k).to (cut_to m.horizon (pos s +ℤ (m.lag k).gap)) some))) in
       by_kinds m (λ k. pick (eqb ((time_net m).head k) 0) (word f k)) ∙ omega (arith, sum_to_zero m.n)
 
+-- where the words of a lag stand
+pub lag_place : (m : Meaning) (n k t : ℕ) → n ≡ m.n → (2 * n + k) * m.horizon + t ≡ lag_arc m k t
+lag_place m n k t en = rw en (omega arith)
+
 -- inner node i by activity and slot, under a horizon h
 pub record Node (m : Meaning) (h i : ℕ) : Type 0 where
   pub some : 0 < h - 1

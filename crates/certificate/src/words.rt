@@ -1,4 +1,4 @@
-// The flow words of a proposed plan: none above what its arc can carry.
+// What is measured by the floors of a project: the most that each flow word may be, and what starts cost.
 ghost use Rattle.std.specs.Prelude.{◌≡◌, ◌*◌, ◌^◌, ◌<◌, ◌≤◌, length};
 ghost use Rattle.std.specs.Option.{unwrap_or};
 ghost use Rattle.model.specs.Meaning.{price_of};

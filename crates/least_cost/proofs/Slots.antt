@@ -1,6 +1,6 @@
 -- The greatest and the least number of a range that a search finds.
-use Rattle.std.proofs.Common.{◌≡◌, ℕ, suc, ◌+◌, ◌-◌, ◌<◌, ◌≤◌, Bool, true, false, List, [], ◌∷◌, Some, None, Option, unwrap_or, MatchOption, IfSome, refl, sym, ap, ◌∙◌, subst, arith}
-use Rattle.std.proofs.lemmas.Bool.{cond-true, cond-false}
+use Rattle.std.proofs.Common.{◌≡◌, ℕ, zero, suc, ◌+◌, ◌-◌, ◌<◌, ◌≤◌, Bool, true, false, List, [], ◌∷◌, Some, None, Option, unwrap_or, MatchOption, IfSome, refl, sym, ap, ◌∙◌, subst, arith}
+use Rattle.std.proofs.lemmas.Bool.{cond-true, cond-false, cond_both}
 use Rattle.std.proofs.lemmas.Iterator.{first_from_Range}
 use Rattle.std.proofs.iter.Yields.{nat_range_steps}
 use Rattle.std.specs.declared.ops.Range.{Range}
@@ -57,3 +57,9 @@ module _ {F : Type 0} (g : Mut F (Bor ℕ × Unit {0}) Bool) (f : F) (test : ℕ
           → unwrap_or o n ≡ least_from n 0 test
       by None h = sym (least_from_is n 0 n test h (omega arith) (omega arith) (λ l. absurd (omega arith)))
       by (Some x) h = sym (least_from_is n 0 x test h.3 (omega arith) (omega arith) (λ l. h.2))
+
+pub least_within : (k t : ℕ) (f : ℕ → Bool) → least_from k t f ≤ t + k
+least_within zero t f = omega arith
+least_within (suc k) t f =
+    cond_both (f t) t (least_from k (suc t) f) (λ x. x ≤ t + suc k) (λ e. omega arith)
+    (λ e. omega (arith, least_within k (suc t) f))
