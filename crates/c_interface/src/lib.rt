@@ -1,6 +1,5 @@
 #![tactic(auto)]
 // The entry for callers in C: a table file and lent memory in, the cheapest starts and their cost out.
-ghost use Rattle.std.specs.Prelude.{◌≡◌, ◌≤◌, pos, negsuc, ◌+ℤ◌, ◌≤ℤ◌};
 ghost use Rattle.c_interface.specs.Entry.{Priced, FileOutcome, EntryOutcome, FullSizeIsEnough};
 
 use least_cost::plans::cheapest;
@@ -10,17 +9,8 @@ use model::refusal::Refusal;
 use table_file::held::Table;
 use table_file::open::inspect;
 
-// What a list costs that costs so much above the floors.
-fn cost_above(floors: i64, value: u64) -> i64
-    requires low { negsuc 137438953471 ≤ℤ floors }
-    requires high { floors ≤ℤ pos 137438953472 }
-    requires small { value ≤ 128000000000 }
-    ensures { result ≡ floors +ℤ pos value }
-{
-    floors + value as i64
-}
-
 // The cheapest starts of any project, and what they cost: the floors and the value of the flow.
+// C lends the three memories one by one; a struct of them would be taken apart again at each call.
 fn plan_project<P: Project>(
     project: &P,
     starts: &mut [u8],
@@ -33,7 +23,7 @@ fn plan_project<P: Project>(
 {
     let floors = sum_of_floors(project);
     let value = cheapest(project, starts, flow, nodes)?;
-    Ok(cost_above(floors, value))
+    Ok(floors + value as i64)
 }
 
 // The same for the project that a table file states, if it has no fault.

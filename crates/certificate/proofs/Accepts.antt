@@ -1,31 +1,43 @@
 -- What the parts of a check that find no fault tell of a plan, and the other way round.
-use Rattle.std.proofs.Common.{◌≡◌, ℕ, zero, suc, ◌+◌, ◌-◌, ◌<◌, ◌≤◌, Bool, true, false, cond, ltb, List, length, take, ℤ, pos, negsuc, ◌+ℤ◌, ◌-ℤ◌, ◌≤ℤ◌, Some, None, Option, Result, sym, refl, ap, ◌∙◌, subst, ⊎_elim, arith, length-take}
+use Rattle.std.proofs.Common.{◌≡◌, ℕ, zero, suc, ◌+◌, ◌-◌, ◌<◌, ◌≤◌, Bool, true, false, cond, ltb, List, length, take, ℤ, pos, negsuc, ◌+ℤ◌, ◌-ℤ◌, ◌≤ℤ◌, Some, None, Option, unwrap_or, Result, eqb, sym, refl, ap, ◌∙◌, subst, ⊎_elim, arith, length-take}
 use lib.Signed.{le_z}
 use Rattle.std.proofs.lemmas.Int.{ints}
-use Rattle.std.proofs.lemmas.Bool.{eq-eqb, eqb-true, le-leb, leb-true, lt-ltb, ltb-true, cond-true, cond-false, cond_both, and_from, and_parts, cases_Bool, cases_eq}
+use Rattle.std.proofs.lemmas.Bool.{eq-eqb, eqb-true, le-leb, leb-true, lt-ltb, ltb-true, cond-true, cond-false, cond_both, and_from, and_parts, both_ways, cases_Bool, cases_eq}
+use Rattle.model.specs.declared.price.Price.{Price}
+use Rattle.model.specs.declared.price.Price.TheVariants.{Open, Closed}
 use Rattle.model.specs.declared.refusal.Fault.TheVariants.{ValueDiffers}
 use Rattle.model.specs.declared.refusal.Refusal.{Refusal}
-use Rattle.model.specs.Refusals.{refuse}
 use Rattle.model.specs.Meaning.{Meaning, Bounds, price_of}
-use Rattle.model.specs.Starts.{start, is_open, cost, floors, holds}
+use Rattle.model.specs.Starts.{start, is_open, cost, floor, floors, holds}
 use Rattle.model.specs.Chosen.{Meets}
 use Rattle.flow.specs.Sums.{sum_to}
 use Rattle.flow.specs.Nets.{IsFlow, word, outflow, inflow}
-use Rattle.plan_theory.specs.TimeNetwork.{time_net}
+use Rattle.flow.proofs.Sums.{sum_to_same}
+use Rattle.plan_theory.specs.TimeNetwork.{time_net, above}
 use Rattle.plan_theory.specs.TimeBounds.{time_bounds}
 use Rattle.plan_theory.proofs.Floors.{excess, cost_above}
 use Rattle.plan_theory.proofs.Plans.{flow_vouches_for_cost}
-use Rattle.certificate.specs.Faults.{or_else, each, arcs_of, inner_nodes, most, word_limit, start_fault, lag_fault, word_fault, node_fault, same_number, value_of, value_fault, starts_fault, lags_fault, words_fault, nodes_fault, check_fault, check_answer}
+use Rattle.certificate.specs.Faults.{or_else, each, arcs_of, inner_nodes, most, word_limit, start_fault, lag_fault, word_fault, node_fault, same_number, value_of, value_fault, worth_fault, unless_holds, starts_fault, lags_fault, words_fault, nodes_fault, check_fault, check_answer}
 use Rattle.certificate.specs.Accepting.{Accounts, PassesExactly, PassedIsCheapest}
 use Rattle.certificate.proofs.Chains.{clear, passes}
-use Rattle.certificate.specs.Sums.{Carried, above_floors}
+use Rattle.certificate.specs.Sums.{Carried, above_floors, above_if_open}
 
-pub price_there : (m : Meaning) (a t : ℕ) → a < m.n → t < m.horizon → None ≡ price_of m a t → ⊥
-price_there m a t la lt e =
-    let there : price_of m a t ≡ Some (m.price a t) =
-    cond-true _ _ _ (and_from _ _ (lt-ltb a m.n la) (lt-ltb t m.horizon lt)) in
-    let z : ◌≡◌ {A = ℕ} 0 1 = cc in
-    omega arith
+above_is : (low : ℤ) (p : Price) → unwrap_or (above_if_open low (Some p)) 0 ≡ above low p
+above_is low (Open p) = refl
+above_is low (Closed h) = refl
+
+-- what starts that meet the project cost above the floors, price by price
+pub costs_same : (m : Meaning) (s : List ℕ) → Meets m s → (n : ℕ) → n ≡ m.n
+    → sum_to (λ a. unwrap_or (above_if_open (floor m a) (price_of m a (start s a))) 0) n
+    ≡ sum_to (above_floors m s) m.n
+costs_same m s x n e =
+    sum_to_same _ (above_floors m s) n
+    (λ a l.
+    let la : a < m.n = omega arith in
+    ap (λ (o : Option Price). unwrap_or (above_if_open (floor m a) o) 0)
+    (cond-true _ _ _ (and_from _ _ (lt-ltb a m.n la) (lt-ltb (start s a) m.horizon (x.below_horizon a la))))
+    ∙ above_is (floor m a) (m.price a (start s a)))
+    ∙ ap (sum_to (above_floors m s)) e
 
 le_int_refl : (x : ℤ) → le_z x x ≡ true
 le_int_refl (pos a) = le-leb a a (omega arith)
@@ -60,22 +72,24 @@ module _ (m : Meaning) (s f : List ℕ) (meeting : Meets m s) where
       balance_from _ _ (excess m s) (cost m s) (floors m) (cost_above m s meeting)
       (same_true (value_of m f) (cost m s -ℤ floors m) e)
 
-module _ (m : Meaning) (s f : List ℕ) (meeting : Meets m s) (x y w : ℕ)
-    (out : x ≡ outflow (time_net m) (word f) 0) (into : y ≡ inflow (time_net m) (word f) 0)
-    (above : w ≡ sum_to (above_floors m s) m.n) where
-  pub value_clear : x ≡ y + w → value_fault m s f ≡ None
-  value_clear e = cond-true _ _ _ (worth_is m s f meeting w above (sym out ∙ (e ∙ ap (λ (v : ℕ). v + w) into)))
-
-  pub value_bad : (x ≡ y + w → ⊥) → value_fault m s f ≡ Some (refuse ValueDiffers 0)
-  value_bad differ =
-      cond-false _ _ _
+  -- a cost that is worked out as a sum, in place of the costs
+  pub worth_same : (w : ℕ) → w ≡ sum_to (above_floors m s) m.n → worth_fault m f w ≡ value_fault m s f
+  worth_same w q =
+      ap (λ (b : Bool). unless_holds b ValueDiffers 0)
       (⊎_elim
-      (λ t.
-      let q : outflow (time_net m) (word f) 0 ≡ inflow (time_net m) (word f) 0 + excess m s =
-      worth_from m s f meeting t in
-      absurd (differ (omega arith)))
-      (λ n. n)
-      (cases_Bool (same_number (value_of m f) (cost m s -ℤ floors m))))
+      (λ t. t ∙ sym (worth_is w q (eqb-true _ _ t)))
+      (λ n.
+      n
+      ∙ sym
+      (⊎_elim (λ t. let o = worth_from t in absurd (both_ways _ n (eq-eqb _ _ (o ∙ ap (λ (v : ℕ). into + v) (sym q)))))
+      (λ no. no) (cases_Bool (same_number (value_of m f) (cost m s -ℤ floors m)))))
+      (cases_Bool (eqb out (into + w))))
+    where
+      out : ℕ
+      out = outflow (time_net m) (word f) 0
+
+      into : ℕ
+      into = inflow (time_net m) (word f) 0
 
 -- a part that finds no fault, and the parts of a chain
 holds_from : (b : Bool) (r : Refusal) → ◌≡◌ {A = Option Refusal} (cond b None (Some r)) None → b ≡ true

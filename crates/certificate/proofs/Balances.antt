@@ -31,10 +31,7 @@ module _ (m : Meaning) (f : List ℕ) (h i x y : ℕ) (n : Node m h i)
   pub node_bad : (x ≡ y → ⊥) → node_fault m f (2 + i) ≡ Some (refuse Unbalanced (2 + i))
   node_bad differ = cond-false _ _ _ (ne_eqb _ _ (λ q. differ (sym out_here ∙ (q ∙ into_here))))
 
--- the counts that a project answers
-pub arcs_same : (m : Meaning) (n h l : ℕ) → n ≡ m.n → h ≡ m.horizon → l ≡ m.lags → h * (2 * n + l) ≡ arcs_of m
-arcs_same m n h l en eh el = rw (en, eh, el) refl
-
+-- the counts that a project answers, and their limits
 pub nodes_same : (m : Meaning) (n h : ℕ) → n ≡ m.n → h ≡ m.horizon → n * (h - 1) ≡ inner_nodes m
 nodes_same m n h en eh = rw (en, eh) refl
 

@@ -13,12 +13,9 @@ pub fault : (f : Option Refusal) (r : Refusal) → Err r ≡ unless f → f ≡ 
 fault None r e = absurd (let z : ◌≡◌ {A = ℕ} 0 1 = cc in omega arith)
 fault (Some s) r e = cc
 
--- a part without a fault is passed by, one with a fault ends the check
+-- a part without a fault is passed by
 pub past : (f g : Option Refusal) (r : Result (Unit {0}) Refusal) → f ≡ None → r ≡ unless g → r ≡ unless (or_else f g)
 past f g r clean rest = rest ∙ ap (λ o. unless (or_else o g)) (sym clean)
-
-pub stops : (f g : Option Refusal) (r : Refusal) → f ≡ Some r → Err r ≡ unless (or_else f g)
-stops f g r bad = ap (λ o. unless (or_else o g)) (sym bad)
 
 pub fails : (f : Option Refusal) (r : Refusal) → f ≡ Some r → Err r ≡ unless f
 fails f r bad = ap unless (sym bad)
@@ -40,3 +37,7 @@ each_stops (suc n) k f r less so_far here =
     let earlier : k < n = ⊎_elim (λ l. omega arith) (λ l. l) other in
     ap (λ o. or_else o (f n)) (each_stops n k f r earlier so_far here))
     (cases_order n k)
+
+pub each_fails : (n k : ℕ) (f : ℕ → Option Refusal) (r : Refusal) → k < n → each k f ≡ None → Err r ≡ unless (f k)
+    → Err r ≡ unless (each n f)
+each_fails n k f r less so_far here = fails _ r (each_stops n k f r less so_far (fault _ r here))

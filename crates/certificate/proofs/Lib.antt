@@ -1,3 +1,4 @@
+pub mod Totals
 pub mod Chains
 pub mod Points
 pub mod Balances

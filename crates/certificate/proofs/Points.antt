@@ -1,5 +1,5 @@
 -- The sums at a point of the time network, over the arcs there alone.
-use Rattle.std.proofs.Common.{◌≡◌, ℕ, ◌+◌, ◌-◌, ◌*◌, ◌/◌, ◌%◌, ◌<◌, ◌≤◌, Bool, true, false, ◌&&◌, eqb, List, ℤ, pos, negsuc, ◌+ℤ◌, ◌≤ℤ◌, sym, refl, ap, ◌∙◌, subst, ⊎_elim, arith}
+use Rattle.std.proofs.Common.{◌≡◌, ℕ, ◌+◌, ◌-◌, ◌*◌, ◌/◌, ◌%◌, ◌<◌, Bool, true, false, ◌&&◌, eqb, List, ℤ, pos, negsuc, ◌+ℤ◌, sym, refl, ap, ◌∙◌, subst, ⊎_elim, arith}
 use Rattle.std.proofs.lemmas.Nat.{div-mul-add, mod-mul-add, mod_below, div_below, div-add-mod'}
 use Rattle.std.proofs.lemmas.Int.{ints}
 use Rattle.std.proofs.lemmas.Bool.{cases_eq, cases_lt, cases_Bool, eq-eqb, ne_eqb, eqb-true, and_from, and_left, and_right}
@@ -269,6 +269,10 @@ module _ (m : Meaning) (f : List ℕ) (some : 0 < m.horizon) where
       ∙ ap (word f) (omega arith)) in
       by_kinds m (λ k. pick (eqb ((time_net m).tail k) 0) (word f k)) ∙ omega (arith, sum_to_zero m.n)
 
+  pub source_words : (n l : ℕ) → n ≡ m.n → l ≡ m.lags
+      → first_words f m.horizon 0 n + first_words f m.horizon (2 * n) l ≡ outflow (time_net m) (word f) 0
+  source_words n l en el = rw (en, el) (sym outflow_source)
+
   pub inflow_source : inflow (time_net m) (word f) 0
       ≡ first_words f m.horizon m.n m.n + sum_to (lag_to_source m f) m.lags
   inflow_source =
@@ -288,7 +292,7 @@ module _ (m : Meaning) (f : List ℕ) (some : 0 < m.horizon) where
       (point_source m.horizon (m.lag k).to (cut_to m.horizon (pos s +ℤ (m.lag k).gap)) some))) in
       by_kinds m (λ k. pick (eqb ((time_net m).head k) 0) (word f k)) ∙ omega (arith, sum_to_zero m.n)
 
--- where the words of a row stand
+-- where the words of a lag stand
 pub lag_place : (m : Meaning) (n k t : ℕ) → n ≡ m.n → (2 * n + k) * m.horizon + t ≡ lag_arc m k t
 lag_place m n k t en = rw en (omega arith)
 
@@ -310,8 +314,3 @@ node_here m i l =
 
 pub node_of : (m : Meaning) (h i : ℕ) → h ≡ m.horizon → i < inner_nodes m → Node m h i
 node_of m h i e l = subst (λ (x : ℕ). Node m x i) (sym e) (node_here m i l)
-
--- a slot at 0 or before is cut to the source
-pub cut_zero : (h : ℕ) (z : ℤ) → z ≤ℤ pos 0 → cut_to h z ≡ 0
-cut_zero h (pos x) l = let y : x ≤ 0 = omega (arith, ints) in omega arith
-cut_zero h (negsuc x) l = refl

@@ -70,6 +70,13 @@ same_number x y = int_le x y && int_le y x
 abbrev pub value_fault : Meaning → List ℕ → List ℕ → Option Refusal
 value_fault m s flow = unless_holds (same_number (value_of m flow) (cost m s -ℤ floors m)) ValueDiffers 0
 
+-- the source sends w more than it gets
+abbrev pub worth_fault : Meaning → List ℕ → ℕ → Option Refusal
+worth_fault m flow w =
+    unless_holds
+    (outflow (time_net m) (word flow) 0 == inflow (time_net m) (word flow) 0 + w)
+    ValueDiffers 0
+
 abbrev pub starts_fault : Meaning → List ℕ → Option Refusal
 starts_fault m s = each m.n (start_fault m s)
 

@@ -1,6 +1,8 @@
 -- What flow words put on the arcs at a point, kind by kind. A point has an arc on and an arc back on each
 -- side, and those of the lags from and to its activity.
-use Rattle.std.specs.Prelude.{◌≡◌, ℕ, ◌+◌, ◌-◌, ◌*◌, ◌<◌, ◌≤◌, ◌&&◌, List, length, ℤ, pos, ◌+ℤ◌, ◌==◌, slice_index_or}
+use Rattle.std.specs.Prelude.{◌≡◌, ℕ, ◌+◌, ◌-◌, ◌*◌, ◌<◌, ◌≤◌, ◌&&◌, List, length, ℤ, pos, ◌+ℤ◌, ◌-ℤ◌, Some, None, Option, ◌==◌, slice_index_or, unsigned_abs}
+use Rattle.model.specs.declared.price.Price.{Price}
+use Rattle.model.specs.declared.price.Price.TheVariants.{Open, Closed}
 use Rattle.model.specs.Meaning.{Meaning}
 use Rattle.model.specs.Starts.{start, floor}
 use Rattle.flow.specs.Sums.{sum_to, pick}
@@ -12,6 +14,10 @@ use Rattle.certificate.specs.Faults.{arcs_of, word_limit}
 abbrev pub rows_of : Meaning → ℕ
 rows_of m = 2 * m.n + m.lags
 
+-- no project has more rows, so no sum here has more terms
+abbrev pub most_terms : ℕ
+most_terms = 384
+
 -- there is a word for each arc, and none is above the limit
 pub record Carried (m : Meaning) (flow : List ℕ) : Type 0 where
   pub long : arcs_of m ≤ length flow
@@ -21,6 +27,12 @@ pub record Carried (m : Meaning) (flow : List ℕ) : Type 0 where
 pub record FloorsOf (m : Meaning) (low : List ℤ) : Type 0 where
   pub room : m.n ≤ length low
   pub each_floor : (a : ℕ) → a < m.n → slice_index_or low a (pos 0) ≡ floor m a
+
+-- what an open price lies above a floor; nothing where the slot is closed, or where there is none
+abbrev pub above_if_open : ℤ → Option Price → Option ℕ
+above_if_open low (Some (Open p)) = Some (unsigned_abs (p -ℤ low))
+above_if_open low (Some (Closed height)) = None
+above_if_open low None = None
 
 -- what lag k takes away from point (a, t)
 abbrev pub lag_out : Meaning → List ℕ → ℕ → ℕ → ℕ → ℕ

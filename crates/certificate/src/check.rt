@@ -3,18 +3,18 @@ ghost use Rattle.std.specs.Prelude.{◌≡◌, ◌≤◌, length};
 ghost use Rattle.certificate.specs.Faults.{unless, arcs_of, sizes_fault, plan_fault, check_answer};
 ghost use Rattle.certificate.specs.Accepting.{PassesExactly, PassedIsCheapest};
 
-use crate::nodes::check_nodes;
-use crate::starts::{check_lags, check_starts};
-use crate::value::check_value;
-use crate::words::{arc_count, check_words, floors_of};
+use crate::nodes::Rows;
+use crate::starts::StartList;
+use crate::words::Floors;
 use model::project::Project;
 use model::refusal::{Fault, Refusal};
+use plan_theory::sizes::flow_words;
 
 fn check_sizes<P: Project>(project: &P, starts: &[u8], flow: &[u64]) -> Result<(), Refusal>
     ensures { result ≡ unless (sizes_fault (P.meaning project.now) starts.now flow.now) }
 {
     let activities = project.count();
-    let arcs = arc_count(project);
+    let arcs = flow_words(project);
     if starts.len() < activities as usize {
         return Err(Fault::StartBytes.at(activities));
     }
@@ -24,24 +24,28 @@ fn check_sizes<P: Project>(project: &P, starts: &[u8], flow: &[u64]) -> Result<(
     Ok(())
 }
 
-fn check_plan<P: Project>(project: &P, starts: &[u8], flow: &[u64]) -> Result<(), Refusal>
-    requires exact { length starts.now ≡ (P.meaning project.now).n }
-    requires enough { arcs_of (P.meaning project.now) ≤ length flow.now }
-    ensures { result ≡ unless (plan_fault (P.meaning project.now) starts.now flow.now) }
+fn check_plan<P: Project>(list: &StartList<P>, flow: &[u64]) -> Result<(), Refusal>
+    requires { arcs_of (P.meaning list.now.project.now) ≤ length flow.now }
+    ensures { result ≡ unless (plan_fault (P.meaning list.now.project.now) list.now.starts.now flow.now) }
 {
-    check_starts(project, starts)?;
-    check_lags(project, starts)?;
-    let floors = floors_of(project);
-    check_words(project, &floors, flow)?;
-    check_nodes(project, flow)?;
-    check_value(project, &floors, starts, flow)
+    list.check_starts()?;
+    list.check_lags()?;
+    let floors = Floors::of(list.project);
+    floors.check_words(flow)?;
+    let rows = Rows {
+        project: list.project,
+        flow,
+    };
+    rows.check_nodes()?;
+    rows.check_value(floors.cost_above(list.starts))
 }
 
 fn answer_of<P: Project>(project: &P, starts: &[u8], flow: &[u64]) -> Result<(), Refusal>
     ensures { result ≡ check_answer (P.meaning project.now) starts.now flow.now }
 {
     check_sizes(project, starts, flow)?;
-    check_plan(project, &starts[..project.count() as usize], flow)
+    let starts = &starts[..project.count() as usize];
+    check_plan(&StartList { project, starts }, flow)
 }
 
 /// Checks a proposed plan: a start byte for each activity, and a flow word for each arc of the time

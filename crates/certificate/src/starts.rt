@@ -8,28 +8,6 @@ use model::project::Project;
 use model::refusal::{Fault, Refusal};
 use model::time::Slot;
 
-fn check_start<P: Project>(project: &P, starts: &[u8], activity: u16) -> Result<(), Refusal>
-    requires exact { length starts.now ≡ (P.meaning project.now).n }
-    requires present { activity < (P.meaning project.now).n }
-    ensures { result ≡ unless (start_fault (P.meaning project.now) starts.now activity) }
-{
-    match project.price(activity, Slot(starts[activity as usize] as u16)) {
-        Some(Price::Open(_)) => Ok(()),
-        _ => Err(Fault::StartClosed.at(activity)),
-    }
-}
-
-/// Every activity starts below the horizon in a slot that is open for it, or the least that does not.
-pub fn check_starts<P: Project>(project: &P, starts: &[u8]) -> Result<(), Refusal>
-    requires { length starts.now ≡ (P.meaning project.now).n }
-    ensures { result ≡ unless (starts_fault (P.meaning project.now) starts.now) }
-{
-    for a in 0..project.count() {
-        check_start(project, starts, a)?;
-    }
-    Ok(())
-}
-
 /// A lag that the project has.
 pub fn lag_at<P: Project>(project: &P, number: u16) -> Lag
     requires { number < (P.meaning project.now).lags }
@@ -38,28 +16,57 @@ pub fn lag_at<P: Project>(project: &P, number: u16) -> Lag
     project.lag(number).unwrap()
 }
 
-fn check_lag<P: Project>(project: &P, starts: &[u8], number: u16) -> Result<(), Refusal>
-    requires exact { length starts.now ≡ (P.meaning project.now).n }
-    requires known { number < (P.meaning project.now).lags }
-    ensures { result ≡ unless (lag_fault (P.meaning project.now) starts.now number) }
-{
-    let lag = lag_at(project, number);
-    let from = starts[lag.from as usize] as i32;
-    let to = starts[lag.to as usize] as i32;
-    if from + lag.gap as i32 <= to {
-        Ok(())
-    } else {
-        Err(Fault::LagBroken.at(number))
-    }
+/// A start byte for each activity of a project.
+#[derive(Drop)]
+pub struct StartList<'a, P: Project> {
+    pub project: &'a P,
+    pub starts: &'a [u8],
+    ghost exact: { length starts.now ≡ (P.meaning project.now).n },
 }
 
-/// No lag is broken, or the least that is.
-pub fn check_lags<P: Project>(project: &P, starts: &[u8]) -> Result<(), Refusal>
-    requires { length starts.now ≡ (P.meaning project.now).n }
-    ensures { result ≡ unless (lags_fault (P.meaning project.now) starts.now) }
-{
-    for k in 0..project.lag_count() {
-        check_lag(project, starts, k)?;
+impl<P: Project> StartList<'_, P> {
+    fn check_start(&self, activity: u16) -> Result<(), Refusal>
+        requires { activity < (P.meaning self.now.project.now).n }
+        ensures { result ≡ unless (start_fault (P.meaning self.now.project.now) self.now.starts.now activity) }
+    {
+        let slot = Slot(self.starts[activity as usize] as u16);
+        match self.project.price(activity, slot) {
+            Some(Price::Open(_)) => Ok(()),
+            _ => Err(Fault::StartClosed.at(activity)),
+        }
     }
-    Ok(())
+
+    /// Every activity starts below the horizon in a slot that is open for it, or the least that does not.
+    pub fn check_starts(&self) -> Result<(), Refusal>
+        ensures { result ≡ unless (starts_fault (P.meaning self.now.project.now) self.now.starts.now) }
+    {
+        for a in 0..self.project.count() {
+            self.check_start(a)?;
+        }
+        Ok(())
+    }
+
+    fn check_lag(&self, number: u16) -> Result<(), Refusal>
+        requires { number < (P.meaning self.now.project.now).lags }
+        ensures { result ≡ unless (lag_fault (P.meaning self.now.project.now) self.now.starts.now number) }
+    {
+        let lag = lag_at(self.project, number);
+        let from = self.starts[lag.from as usize] as i32;
+        let to = self.starts[lag.to as usize] as i32;
+        if from + lag.gap as i32 <= to {
+            Ok(())
+        } else {
+            Err(Fault::LagBroken.at(number))
+        }
+    }
+
+    /// No lag is broken, or the least that is.
+    pub fn check_lags(&self) -> Result<(), Refusal>
+        ensures { result ≡ unless (lags_fault (P.meaning self.now.project.now) self.now.starts.now) }
+    {
+        for k in 0..self.project.lag_count() {
+            self.check_lag(k)?;
+        }
+        Ok(())
+    }
 }

@@ -1,141 +1,89 @@
-// The value of the flow of a proposed plan, and what the plan costs above the floors.
-ghost use Rattle.std.specs.Prelude.{◌≡◌, ◌+◌, ◌*◌, ◌<◌, ◌≤◌};
-ghost use Rattle.model.specs.Chosen.{Meets};
+// The value of the flow of a proposed plan.
+ghost use Rattle.std.specs.Prelude.{◌≡◌, ◌+◌, ◌*◌, ◌^◌, ◌<◌, ◌≤◌};
 ghost use Rattle.flow.specs.Sums.{sum_to};
-ghost use Rattle.flow.specs.Nets.{word, inflow};
+ghost use Rattle.flow.specs.Nets.{word, inflow, outflow};
 ghost use Rattle.plan_theory.specs.TimeNetwork.{time_net};
-ghost use Rattle.certificate.specs.Faults.{unless, word_limit, value_fault};
-ghost use Rattle.certificate.specs.Sums.{Carried, FloorsOf, rows_of, first_words, out_of_source, word_to_source, lag_to_source, above_floors};
+ghost use Rattle.certificate.specs.Faults.{unless, word_limit, worth_fault};
+ghost use Rattle.certificate.specs.Sums.{rows_of, most_terms, first_words, word_to_source, lag_to_source};
 
-use crate::nodes::{lag_word, row_word};
+use crate::nodes::Rows;
 use crate::starts::lag_at;
-use model::price::Price;
 use model::project::Project;
 use model::refusal::{Fault, Refusal};
-use model::time::Slot;
 
-// The words of slot 0 in so many rows.
-fn first_words<P: Project>(project: &P, flow: &[u64], row: u16, rows: u16) -> u64
-    requires carried { Carried (P.meaning project.now) flow.now }
-    requires placed { row + rows ≤ rows_of (P.meaning project.now) }
-    ensures value { result ≡ first_words flow.now (P.meaning project.now).horizon row rows }
-    ensures low { result ≤ word_limit * rows }
-{
-    let mut sum = 0;
-    for i in 0..rows {
-        sum += row_word(project, flow, row + i, 0);
+impl<P: Project> Rows<'_, P> {
+    // The words of slot 0 in so many rows.
+    fn first_words(&self, row: u16, rows: u16) -> u64
+        requires { row + rows ≤ rows_of (P.meaning self.now.project.now) }
+        ensures value { result ≡ first_words self.now.flow.now (P.meaning self.now.project.now).horizon row rows }
+        ensures low { result ≤ most_terms * word_limit }
+    {
+        (0..rows).map(|i| self.row_word(row + i, 0)).sum()
     }
-    sum
-}
 
-// What a lag at a slot brings to the source: its word, if it leads to slot 0 or before.
-fn word_to_source<P: Project>(project: &P, flow: &[u64], number: u16, slot: u16) -> u64
-    requires carried { Carried (P.meaning project.now) flow.now }
-    requires known { number < (P.meaning project.now).lags }
-    requires within { slot < (P.meaning project.now).horizon }
-    ensures value { result ≡ word_to_source (P.meaning project.now) flow.now number slot }
-    ensures low { result ≤ word_limit }
-{
-    if slot as i32 + lag_at(project, number).gap as i32 > 0 {
-        return 0;
+    // What a lag at a slot brings to the source: its word, if it leads to slot 0 or before.
+    fn word_to_source(&self, number: u16, slot: u16) -> u64
+        requires known { number < (P.meaning self.now.project.now).lags }
+        requires within { slot < (P.meaning self.now.project.now).horizon }
+        ensures value { result ≡ word_to_source (P.meaning self.now.project.now) self.now.flow.now number slot }
+        ensures low { result ≤ word_limit }
+    {
+        if slot as i32 + lag_at(self.project, number).gap as i32 > 0 {
+            0
+        } else {
+            self.lag_word(number, slot)
+        }
     }
-    lag_word(project, flow, number, slot)
-}
 
-// What a lag brings to the source.
-fn lag_to_source<P: Project>(project: &P, flow: &[u64], number: u16) -> u64
-    requires carried { Carried (P.meaning project.now) flow.now }
-    requires known { number < (P.meaning project.now).lags }
-    ensures value { result ≡ lag_to_source (P.meaning project.now) flow.now number }
-    ensures low { result ≤ 16384000000000 }
-{
-    let mut sum = 0;
-    for t in 0..project.horizon() {
-        sum += word_to_source(project, flow, number, t);
+    // What a lag brings to the source.
+    fn lag_to_source(&self, number: u16) -> u64
+        requires { number < (P.meaning self.now.project.now).lags }
+        ensures value { result ≡ lag_to_source (P.meaning self.now.project.now) self.now.flow.now number }
+        ensures low { result ≤ most_terms * word_limit }
+    {
+        (0..self.project.horizon())
+            .map(|t| self.word_to_source(number, t))
+            .sum()
     }
-    sum
-}
 
-// What the lags bring to the source.
-fn lags_to_source<P: Project>(project: &P, flow: &[u64]) -> u64
-    requires { Carried (P.meaning project.now) flow.now }
-    ensures value { result ≡ sum_to (lag_to_source (P.meaning project.now) flow.now) (P.meaning project.now).lags }
-    ensures low { result ≤ 4194304000000000 }
-{
-    let mut sum = 0;
-    for k in 0..project.lag_count() {
-        sum += lag_to_source(project, flow, k);
+    // What the lags bring to the source.
+    fn lags_to_source(&self) -> u64
+        ensures value { let m = P.meaning self.now.project.now in
+            result ≡ sum_to (lag_to_source m self.now.flow.now) m.lags }
+        ensures low { result ≤ most_terms * (most_terms * word_limit) }
+    {
+        (0..self.project.lag_count())
+            .map(|k| self.lag_to_source(k))
+            .sum()
     }
-    sum
-}
 
-// What leaves the source, the first point of every activity.
-fn source_out<P: Project>(project: &P, flow: &[u64]) -> u64
-    requires { Carried (P.meaning project.now) flow.now }
-    ensures { result ≡ out_of_source (P.meaning project.now) flow.now }
-{
-    let activities = project.count();
-    let on = first_words(project, flow, 0, activities);
-    on + first_words(project, flow, 2 * activities, project.lag_count())
-}
-
-// What enters the source.
-fn source_in<P: Project>(project: &P, flow: &[u64]) -> u64
-    requires { Carried (P.meaning project.now) flow.now }
-    ensures value { result ≡ inflow (time_net (P.meaning project.now)) (word flow.now) 0 }
-    ensures low { result ≤ 5000000000000000 }
-{
-    let activities = project.count();
-    let back = first_words(project, flow, activities, activities);
-    back + lags_to_source(project, flow)
-}
-
-// What the price of an activity at its start lies above its floor.
-fn above_floor<P: Project>(project: &P, floors: &[i32], starts: &[u8], activity: u16) -> u64
-    requires floored { FloorsOf (P.meaning project.now) floors.now }
-    requires meeting { Meets (P.meaning project.now) starts.now }
-    requires present { activity < (P.meaning project.now).n }
-    ensures value { result ≡ above_floors (P.meaning project.now) starts.now activity }
-    ensures low { result ≤ 4294967296 }
-{
-    let slot = Slot(starts[activity as usize] as u16);
-    match project.price(activity, slot) {
-        Some(Price::Open(price)) => price.abs_diff(floors[activity as usize]) as u64,
-        Some(Price::Closed(_)) => 0,
-        None => 0,
+    // What leaves the source, the first point of every activity.
+    fn source_sends(&self) -> u64
+        ensures { result ≡ outflow (time_net (P.meaning self.now.project.now)) (word self.now.flow.now) 0 }
+    {
+        let activities = self.project.count();
+        let on = self.first_words(0, activities);
+        on + self.first_words(2 * activities, self.project.lag_count())
     }
-}
 
-// What the starts cost above the floors.
-fn cost_above<P: Project>(project: &P, floors: &[i32], starts: &[u8]) -> u64
-    requires floored { FloorsOf (P.meaning project.now) floors.now }
-    requires meeting { Meets (P.meaning project.now) starts.now }
-    ensures value { result ≡ sum_to (above_floors (P.meaning project.now) starts.now) (P.meaning project.now).n }
-    ensures low { result ≤ 274877906944 }
-{
-    let mut sum = 0;
-    for a in 0..project.count() {
-        sum += above_floor(project, floors, starts, a);
+    // What enters the source.
+    fn source_gets(&self) -> u64
+        ensures value { result ≡ inflow (time_net (P.meaning self.now.project.now)) (word self.now.flow.now) 0 }
+        ensures low { result ≤ 20000000000000000 }
+    {
+        let activities = self.project.count();
+        self.first_words(activities, activities) + self.lags_to_source()
     }
-    sum
-}
 
-/// The source sends more than it gets by what the starts cost above the floors, or it is a fault.
-pub fn check_value<P: Project>(
-    project: &P,
-    floors: &[i32],
-    starts: &[u8],
-    flow: &[u64],
-) -> Result<(), Refusal>
-    requires floored { FloorsOf (P.meaning project.now) floors.now }
-    requires meeting { Meets (P.meaning project.now) starts.now }
-    requires carried { Carried (P.meaning project.now) flow.now }
-    ensures { result ≡ unless (value_fault (P.meaning project.now) starts.now flow.now) }
-{
-    let accounted = source_in(project, flow) + cost_above(project, floors, starts);
-    if source_out(project, flow) == accounted {
-        Ok(())
-    } else {
-        Err(Fault::ValueDiffers.at(0))
+    /// The source sends more than it gets by what the starts cost above the floors, or it is a fault.
+    pub fn check_value(&self, above: u64) -> Result<(), Refusal>
+        requires { above ≤ most_terms * 2 ^ 32 }
+        ensures { result ≡ unless (worth_fault (P.meaning self.now.project.now) self.now.flow.now above) }
+    {
+        if self.source_sends() == self.source_gets() + above {
+            Ok(())
+        } else {
+            Err(Fault::ValueDiffers.at(0))
+        }
     }
 }

@@ -1,80 +1,90 @@
-// The flow words of a proposed plan: none above what its arc can carry.
-ghost use Rattle.std.specs.Prelude.{◌≡◌, ◌<◌, ◌≤◌, length};
-ghost use Rattle.certificate.specs.Faults.{unless, arcs_of, most, word_fault, words_fault};
-ghost use Rattle.certificate.specs.Sums.{FloorsOf};
+// What is measured by the floors of a project: the most that each flow word may be, and what starts cost.
+ghost use Rattle.std.specs.Prelude.{◌≡◌, ◌*◌, ◌^◌, ◌<◌, ◌≤◌, length};
+ghost use Rattle.std.specs.Option.{unwrap_or};
+ghost use Rattle.model.specs.Meaning.{price_of};
+ghost use Rattle.model.specs.Starts.{floor};
+ghost use Rattle.model.specs.Chosen.{Meets};
+ghost use Rattle.flow.specs.Sums.{sum_to};
+ghost use Rattle.certificate.specs.Faults.{unless, arcs_of, most, words_fault};
+ghost use Rattle.certificate.specs.Sums.{FloorsOf, most_terms, above_floors, above_if_open};
 
 use model::floors::floor_of;
 use model::price::Price;
 use model::project::Project;
 use model::refusal::{Fault, Refusal};
 use model::time::Slot;
+use plan_theory::sizes::flow_words;
 
 // No word may be above this: 64 activities whose prices differ by at most 2,000,000,000.
 const WORD_LIMIT: u64 = 128_000_000_000;
 
-/// The floors of all activities; 0 past the last of them.
-pub fn floors_of<P: Project>(project: &P) -> [i32; 64]
-    ensures { FloorsOf (P.meaning project.now) result }
-{
-    let mut floors = [0; 64];
-    for a in 0..project.count() {
-        floors[a as usize] = floor_of(project, a);
-    }
-    floors
+/// The floors of all activities of a project; 0 past the last of them.
+#[derive(Drop)]
+pub struct Floors<'a, P: Project> {
+    project: &'a P,
+    floors: [i32; 64],
+    ghost floored: { FloorsOf (P.meaning project.now) floors },
 }
 
-// The most that the word of an arc may be: what its price lies above the floor, if it has one.
-fn limit_of<P: Project>(project: &P, floors: &[i32], arc: usize) -> u64
-    requires { FloorsOf (P.meaning project.now) floors.now }
-    ensures { result ≡ most (P.meaning project.now) arc }
-{
-    let horizon = project.horizon() as usize;
-    if arc >= project.count() as usize * horizon {
-        return WORD_LIMIT;
+impl<'a, P: Project> Floors<'a, P> {
+    /// The floors of a project.
+    pub fn of(project: &'a P) -> Self
+        ensures { result.project.now ≡ project.now }
+    {
+        let mut floors = [0; 64];
+        for (a, floor) in floors.iter_mut().enumerate() {
+            *floor = floor_of(project, a as u16);
+        }
+        Floors { project, floors }
     }
-    let activity = arc / horizon;
-    match project.price(activity as u16, Slot((arc % horizon) as u16)) {
-        Some(Price::Open(price)) => price.abs_diff(floors[activity]) as u64,
-        Some(Price::Closed(_)) => WORD_LIMIT,
-        None => WORD_LIMIT,
-    }
-}
 
-fn check_word<P: Project>(
-    project: &P,
-    floors: &[i32],
-    flow: &[u64],
-    arc: usize,
-) -> Result<(), Refusal>
-    requires floored { FloorsOf (P.meaning project.now) floors.now }
-    requires enough { arcs_of (P.meaning project.now) ≤ length flow.now }
-    requires placed { arc < arcs_of (P.meaning project.now) }
-    ensures { result ≡ unless (word_fault (P.meaning project.now) flow.now arc) }
-{
-    if flow[arc] <= limit_of(project, floors, arc) {
+    // What an open price lies above the floor; nothing where the slot is not open.
+    fn above(&self, activity: u16, slot: u16) -> Option<u64>
+        requires { activity < (P.meaning self.now.project.now).n }
+        ensures value { let m = P.meaning self.now.project.now in
+            result ≡ above_if_open (floor m activity) (price_of m activity slot) }
+        ensures low { unwrap_or result 0 ≤ 2 ^ 32 }
+    {
+        match self.project.price(activity, Slot(slot)) {
+            Some(Price::Open(price)) => Some(price.abs_diff(self.floors[activity as usize]) as u64),
+            _ => None,
+        }
+    }
+
+    // The most that the word of an arc may be: what its price lies above the floor, if it has one.
+    fn most(&self, arc: usize) -> u64
+        ensures { result ≡ most (P.meaning self.now.project.now) arc }
+    {
+        let horizon = self.project.horizon() as usize;
+        if arc >= self.project.count() as usize * horizon {
+            return WORD_LIMIT;
+        }
+        self.above((arc / horizon) as u16, (arc % horizon) as u16)
+            .unwrap_or(WORD_LIMIT)
+    }
+
+    /// No word lies above what its arc can carry, or the least arc whose word does.
+    pub fn check_words(&self, flow: &[u64]) -> Result<(), Refusal>
+        requires { arcs_of (P.meaning self.now.project.now) ≤ length flow.now }
+        ensures { result ≡ unless (words_fault (P.meaning self.now.project.now) flow.now) }
+    {
+        for (arc, word) in flow[..flow_words(self.project)].iter().enumerate() {
+            if *word > self.most(arc) {
+                return Err(Fault::WordAbove.at(arc as u16));
+            }
+        }
         Ok(())
-    } else {
-        Err(Fault::WordAbove.at(arc as u16))
     }
-}
 
-/// How many arcs, and so flow words, the time network of a project has: at most 49,152.
-pub fn arc_count<P: Project>(project: &P) -> usize
-    ensures value { result ≡ arcs_of (P.meaning project.now) }
-    ensures low { result ≤ 49152 }
-{
-    let rows = 2 * project.count() as usize + project.lag_count() as usize;
-    project.horizon() as usize * rows
-}
-
-/// No word lies above what its arc can carry, or the least arc whose word does.
-pub fn check_words<P: Project>(project: &P, floors: &[i32], flow: &[u64]) -> Result<(), Refusal>
-    requires floored { FloorsOf (P.meaning project.now) floors.now }
-    requires enough { arcs_of (P.meaning project.now) ≤ length flow.now }
-    ensures { result ≡ unless (words_fault (P.meaning project.now) flow.now) }
-{
-    for arc in 0..arc_count(project) {
-        check_word(project, floors, flow, arc)?;
+    /// What starts that meet the project cost above the floors.
+    pub fn cost_above(&self, starts: &[u8]) -> u64
+        requires { Meets (P.meaning self.now.project.now) starts.now }
+        ensures value { let m = P.meaning self.now.project.now in
+            result ≡ sum_to (above_floors m starts.now) m.n }
+        ensures low { result ≤ most_terms * 2 ^ 32 }
+    {
+        (0..self.project.count())
+            .map(|a| self.above(a, starts[a as usize] as u16).unwrap_or(0))
+            .sum()
     }
-    Ok(())
 }

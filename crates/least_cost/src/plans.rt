@@ -1,13 +1,12 @@
 // Lists of least cost, found over the time network.
-ghost use Rattle.std.specs.Prelude.{◌≡◌, ℕ, ◌<◌, ◌≤◌, length, replicate};
+ghost use Rattle.std.specs.Prelude.{◌≡◌, length, replicate};
 ghost use Rattle.max_flow.specs.Outcome.{Outcome as FlowOutcome};
 ghost use Rattle.time_network.specs.Meant.{net_of};
 ghost use Rattle.least_cost.specs.declared.side.Side.TheVariants.{Early, Late};
 ghost use Rattle.least_cost.specs.Sides.{net_by};
 ghost use Rattle.least_cost.specs.Outcome.{Settled, Enough, Outcome};
-ghost use Rattle.plan_theory.specs.TimeNetwork.{time_net};
 
-use crate::reading::write_starts;
+use crate::reading::Marks;
 use crate::side::Side;
 use earliest::earliest::node_words;
 use earliest::guard::Cleared;
@@ -16,6 +15,7 @@ use flow::turned::Turned;
 use max_flow::engine::max_flow;
 use model::project::Project;
 use model::refusal::{Fault, Refusal};
+pub use plan_theory::sizes::flow_words;
 use time_network::held::TimeNetwork;
 
 fn flow_over(
@@ -32,22 +32,6 @@ fn flow_over(
     }
 }
 
-fn solve<P: Project>(
-    side: Side,
-    project: &P,
-    starts: &mut [u8],
-    flow: &mut [u64],
-    nodes: &mut [u32],
-) -> Result<u64, Refusal>
-    requires { Enough (P.meaning project.now) starts.old flow.old nodes.old }
-    ensures { Settled side (P.meaning project.now) starts.old starts.new flow.old flow.new result }
-{
-    let network = TimeNetwork::of(project);
-    let value = flow_over(side, &network, flow, nodes)?;
-    write_starts(side, project, nodes, starts);
-    Ok(value)
-}
-
 // Works in exactly the words needed, and leaves them clean.
 fn settle<P: Project>(
     side: Side,
@@ -61,17 +45,17 @@ fn settle<P: Project>(
     ensures settled { Settled side (P.meaning project.now) starts.old starts.new flow.old flow.new result }
 {
     let guard = Cleared(words);
-    solve(side, project, starts, flow, guard.0)
+    let network = TimeNetwork::of(project);
+    let value = flow_over(side, &network, flow, guard.0)?;
+    let marks = Marks {
+        project,
+        nodes: guard.0,
+    };
+    marks.write_starts(side, starts);
+    Ok(value)
 }
 
-/// How many flow words a list of least cost takes: H · (2 · n + m).
-pub fn flow_words<P: Project>(project: &P) -> usize
-    ensures value { result ≡ (time_net (P.meaning project.now)).arcs }
-    ensures bound { result ≤ 49152 }
-{
-    project.horizon() as usize * (2 * project.count() as usize + project.lag_count() as usize)
-}
-
+// The three memories are lent one by one: a struct of them would be packed here to be taken apart below.
 fn plan<P: Project>(
     side: Side,
     project: &P,

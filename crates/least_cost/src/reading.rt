@@ -10,75 +10,82 @@ use crate::side::Side;
 use flow::turned::renamed_node;
 use model::project::Project;
 
-// The node of a point: the source at slot 0, the sink from the horizon on.
-fn point<P: Project>(project: &P, activity: usize, slot: usize) -> usize
-    requires { activity < (P.meaning project.now).n }
-    ensures node { result ≡ point_node (P.meaning project.now).horizon activity slot }
-    ensures inside { result < (time_net (P.meaning project.now)).nodes }
-{
-    let horizon = project.horizon() as usize;
-    if slot == 0 {
-        0
-    } else if slot < horizon {
-        2 + (activity * (horizon - 1) + (slot - 1))
-    } else {
-        1
+/// The marks at the nodes of the time network of a project.
+#[derive(Drop)]
+pub(crate) struct Marks<'a, P: Project> {
+    pub project: &'a P,
+    pub nodes: &'a [u32],
+    ghost enough: { (time_net (P.meaning project.now)).nodes ≤ length nodes.now },
+}
+
+impl<P: Project> Marks<'_, P> {
+    fn is_marked(&self, node: usize) -> bool
+        requires { node < (time_net (P.meaning self.now.project.now)).nodes }
+        ensures { result ≡ marked self.now.nodes.now node }
+    {
+        self.nodes[node] == 1
     }
-}
 
-fn is_marked(nodes: &[u32], node: usize) -> bool
-    requires { node < length nodes.now }
-    ensures { result ≡ marked nodes.now node }
-{
-    nodes[node] == 1
-}
-
-// The greatest marked slot of an activity.
-fn early_start<P: Project>(project: &P, nodes: &[u32], activity: usize) -> usize
-    requires { (activity < (P.meaning project.now).n) × ((time_net (P.meaning project.now)).nodes ≤ length nodes.now) }
-    ensures start { result ≡ start_from (P.meaning project.now) (marked nodes.now) activity }
-    ensures small { result ≤ 128 }
-{
-    let mut start = 0;
-    for t in 0..project.horizon() as usize {
-        if is_marked(nodes, point(project, activity, t)) {
-            start = t;
+    // The node of a point: the source at slot 0, the sink from the horizon on.
+    // The time network asks this of its own counts: a text for both would take them, and bounds on them, at
+    // each call.
+    fn point(&self, activity: usize, slot: usize) -> usize
+        requires { activity < (P.meaning self.now.project.now).n }
+        ensures node { result ≡ point_node (P.meaning self.now.project.now).horizon activity slot }
+        ensures inside { result < (time_net (P.meaning self.now.project.now)).nodes }
+    {
+        let horizon = self.project.horizon() as usize;
+        if slot == 0 {
+            0
+        } else if slot < horizon {
+            2 + (activity * (horizon - 1) + (slot - 1))
+        } else {
+            1
         }
     }
-    start
-}
 
-// The least slot of an activity that is marked over the turned network, or the horizon.
-fn least_marked<P: Project>(project: &P, nodes: &[u32], activity: usize) -> usize
-    requires { (activity < (P.meaning project.now).n) × ((time_net (P.meaning project.now)).nodes ≤ length nodes.now) }
-    ensures least { result ≡ least_marked (P.meaning project.now) (marked nodes.now) activity }
-    ensures small { result ≤ 128 }
-{
-    let horizon = project.horizon() as usize;
-    for t in 0..horizon {
-        if is_marked(nodes, renamed_node(point(project, activity, t))) {
-            return t;
+    // The greatest marked slot of an activity.
+    fn early_start(&self, activity: usize) -> usize
+        requires { activity < (P.meaning self.now.project.now).n }
+        ensures start { result ≡ start_from (P.meaning self.now.project.now) (marked self.now.nodes.now) activity }
+        ensures small { result ≤ 128 }
+    {
+        (0..self.project.horizon() as usize)
+            .rfind(|t| self.is_marked(self.point(activity, *t)))
+            .unwrap_or(0)
+    }
+
+    // The least slot of an activity that is marked over the turned network, or the horizon.
+    fn least_marked(&self, activity: usize) -> usize
+        requires { activity < (P.meaning self.now.project.now).n }
+        ensures least { result ≡ least_marked (P.meaning self.now.project.now) (marked self.now.nodes.now) activity }
+        ensures small { result ≤ 128 }
+    {
+        let horizon = self.project.horizon() as usize;
+        (0..horizon)
+            .find(|t| self.is_marked(renamed_node(self.point(activity, *t))))
+            .unwrap_or(horizon)
+    }
+
+    fn start_of(&self, side: Side, activity: usize) -> u8
+        requires { activity < (P.meaning self.now.project.now).n }
+        ensures { result ≡ start_by side (P.meaning self.now.project.now) (marked self.now.nodes.now) activity }
+    {
+        match side {
+            Side::Early => self.early_start(activity) as u8,
+            Side::Late => self.least_marked(activity).saturating_sub(1) as u8,
         }
     }
-    horizon
-}
 
-fn start_of<P: Project>(side: Side, project: &P, nodes: &[u32], activity: usize) -> u8
-    requires { (activity < (P.meaning project.now).n) × ((time_net (P.meaning project.now)).nodes ≤ length nodes.now) }
-    ensures { result ≡ start_by side (P.meaning project.now) (marked nodes.now) activity }
-{
-    match side {
-        Side::Early => early_start(project, nodes, activity) as u8,
-        Side::Late => least_marked(project, nodes, activity).saturating_sub(1) as u8,
-    }
-}
-
-/// Writes the start of each activity in front of the start bytes.
-pub(crate) fn write_starts<P: Project>(side: Side, project: &P, nodes: &[u32], starts: &mut [u8])
-    requires { ((P.meaning project.now).n ≤ length starts.old) × ((time_net (P.meaning project.now)).nodes ≤ length nodes.now) }
-    ensures { starts.new ≡ starts_by side (P.meaning project.now) (marked nodes.now) ++ drop (P.meaning project.now).n starts.old }
-{
-    for activity in 0..project.count() as usize {
-        starts[activity] = start_of(side, project, nodes, activity);
+    /// Writes the start of each activity in front of the start bytes.
+    pub fn write_starts(&self, side: Side, starts: &mut [u8])
+        requires { (P.meaning self.now.project.now).n ≤ length starts.old }
+        ensures { let m = P.meaning self.now.project.now in
+            starts.new ≡ starts_by side m (marked self.now.nodes.now) ++ drop m.n starts.old }
+    {
+        let count = self.project.count() as usize;
+        for (activity, start) in starts[..count].iter_mut().enumerate() {
+            *start = self.start_of(side, activity);
+        }
     }
 }

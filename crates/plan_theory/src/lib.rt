@@ -3,6 +3,8 @@
 // is the contract of a function that does nothing.
 ghost use Rattle.plan_theory.specs.Plans.{TimeNetworkIsWithinBounds, MinimumCutIsCheapest, TurnedMinimumCutIsLatest, UnhinderedWhenNoneMeets, FlowVouchesForCost};
 
+pub mod sizes;
+
 /// The time network of a project that keeps its limits is a network that keeps those of networks.
 pub fn the_time_network_is_within_bounds()
     ensures { TimeNetworkIsWithinBounds }

@@ -1,7 +1,26 @@
-use Rattle.c_interface.proofs.Limits.{answered_limit}
+use Rattle.std.proofs.Common.{Ok, ap, arith}
+use Rattle.std.proofs.lemmas.Int.{ints}
+use Rattle.c_interface.proofs.Limits.{answered_limit, cost_fits}
 use Rattle.c_interface.proofs.plan_project.Goals as goal
 
-pub cost_above-requires-clause-small : goal.cost_above-requires-clause-small
-cost_above-requires-clause-small g c =
+pub overflow_cast-result : goal.overflow_cast-result
+overflow_cast-result g c =
     let x = c.args.project.now in
-    answered_limit (g.P.Project.meaning x) (g.met.P.Project.bounded x) _ _ _ _ _ _ c.in_ok-value.value c.in_ok-value.ensures
+    let small = answered_limit (g.P.Project.meaning x) (g.met.P.Project.bounded x) _ _ _ _ _ _ c.in_ok-value.value c.in_ok-value.ensures in
+    record { sfits = omega (arith, ints) }
+
+pub overflow_add-result : goal.overflow_add-result
+overflow_add-result g c =
+    let x = c.args.project.now in
+    let small = answered_limit (g.P.Project.meaning x) (g.met.P.Project.bounded x) _ _ _ _ _ _ c.in_ok-value.value c.in_ok-value.ensures in
+    cost_fits _ _ c.sum_of_floors-floors.ensures.low c.sum_of_floors-floors.ensures.high (omega arith)
+
+pub returns : goal.returns
+returns g c =
+    let x = c.args.project.now in
+    let small = answered_limit (g.P.Project.meaning x) (g.met.P.Project.bounded x) _ _ _ _ _ _ c.in_ok-value.value c.in_ok-value.ensures in
+    record {
+      value = Ok c.in_ok-value.value;
+      outcome = c.in_ok-value.ensures;
+      priced = ap Ok (omega (arith, ints));
+    }

@@ -1,0 +1,28 @@
+use Rattle.std.proofs.Common.{◌+◌, ◌*◌, ap, ◌∙◌, arith, rules}
+use Rattle.flow.specs.Nets.{word}
+use Rattle.flow.proofs.Sums.{sum_to_same}
+use Rattle.certificate.specs.Faults.{word_limit}
+use Rattle.certificate.proofs.Totals.{sum_value, sum_fits, sum_low}
+use Rattle.certificate.proofs.nodes.Rows.first_words.Goals as goal
+
+pub sum-requires-clause-fits : goal.sum-requires-clause-fits
+sum-requires-clause-fits g c =
+    let b = g.met.P.Project.bounded c.args.self.now.project.now in
+    let n = b.n_high in
+    let lags = b.lags_ok in
+    sum_fits c.args.rows c.map.ensures.source c.map.ensures.closure (omega arith) word_limit (λ x v q k. search rules) (omega arith)
+
+pub returns : goal.returns
+returns g c =
+    let m = g.P.Project.meaning c.args.self.now.project.now in
+    let b = g.met.P.Project.bounded c.args.self.now.project.now in
+    let n = b.n_high in
+    let lags = b.lags_ok in
+    let f = c.args.self.now.flow.now in
+    record {
+      value =
+          sum_value c.args.rows c.map.ensures.source c.map.ensures.closure (λ i. word f ((c.args.row + i) * m.horizon + 0)) c.sum.result c.sum.ensures.ran (λ x v q k. search rules)
+          ∙ sum_to_same _ _ c.args.rows (λ i l. ap (word f) (omega arith));
+      low =
+          sum_low c.args.rows c.map.ensures.source c.map.ensures.closure (omega arith) word_limit (λ x v q k. search rules) c.sum.result (c.sum.ensures.runs tt);
+    }

@@ -1,6 +1,0 @@
-use Rattle.std.proofs.Common.{◌≡◌, None}
-use Rattle.certificate.specs.Faults.{each, lag_fault}
-use Rattle.certificate.proofs.starts.check_lags.Given as goal
-
-abbrev pub invariant-loop-k : goal.invariant-loop-k
-invariant-loop-k g l = each l.k (lag_fault (g.P.Project.meaning l.project) l.starts) ≡ None

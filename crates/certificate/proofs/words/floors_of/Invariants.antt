@@ -1,8 +1,0 @@
-use Rattle.std.proofs.Common.{◌≡◌, ℕ, ◌<◌, length, get_or, pos}
-use Rattle.model.specs.Starts.{floor}
-use Rattle.certificate.proofs.words.floors_of.Given as goal
-
-abbrev pub invariant-loop-a : goal.invariant-loop-a
-invariant-loop-a g l =
-    (length l.floors ≡ 64)
-    × ((k : ℕ) → k < l.a → get_or l.floors k (pos 0) ≡ floor (g.P.Project.meaning l.project) k)
