@@ -38,6 +38,8 @@ pub struct Called {
     answer: Result<u64, Refusal>,
 }
 
+// The library has a call for each side, and a trial names the side of its list, too: closures in their place
+// would have to come with that side.
 fn plan<P: Project>(
     side: Side,
     project: &P,
@@ -55,7 +57,7 @@ fn lengths_needed<P: Project>(project: &P) -> Lengths {
     let network = time_network(project);
     Lengths {
         bytes: project.count(),
-        words: network.used,
+        words: network.arc_count(),
         nodes: network.nodes.saturating_mul(4),
     }
 }
@@ -69,9 +71,9 @@ impl Called {
         let answer = plan(
             side,
             project,
-            &mut starts[0..(lengths.bytes as usize).min(6)],
-            &mut flow[0..(lengths.words as usize).min(80)],
-            &mut nodes[0..(lengths.nodes as usize).min(96)],
+            &mut starts[..(lengths.bytes as usize).min(6)],
+            &mut flow[..(lengths.words as usize).min(80)],
+            &mut nodes[..(lengths.nodes as usize).min(96)],
         );
         Called {
             starts,

@@ -7,11 +7,29 @@ use crate::network::time_network;
 use certificate::check::check;
 use least_cost::side::Side;
 use model::project::Project;
-use model::refusal::Refusal;
+use model::refusal::{Fault, Refusal};
 use trial_projects::drawn::Source;
 use trial_projects::stacks::Trial;
 
 const DAMAGES: u8 = 100;
+
+// What the check may refuse of these plans.
+const FAULTS: [Fault; 7] = [
+    Fault::StartBytes,
+    Fault::FlowWords,
+    Fault::StartClosed,
+    Fault::LagBroken,
+    Fault::WordAbove,
+    Fault::Unbalanced,
+    Fault::ValueDiffers,
+];
+
+/// How often a fault was answered.
+#[derive(Clone, Copy)]
+pub struct Seen {
+    pub fault: Fault,
+    pub times: u32,
+}
 
 /// How often each thing was seen.
 #[derive(Clone, Copy)]
@@ -20,19 +38,14 @@ pub struct Tally {
     pub plans: u32,
     /// Calls refused as no list meets.
     pub refused: u32,
-    /// What the check answered to damaged plans, by the number of the fault; at 0, that they pass.
-    pub answers: [u32; 25],
+    /// Damaged plans that the check passes.
+    pub passed: u32,
+    /// Those that it refuses.
+    pub rejected: [Seen; 7],
     /// What is not as it should be.
     pub differ: u32,
     /// Draws the damages.
     source: Source,
-}
-
-fn number_of(answer: Result<(), Refusal>) -> u16 {
-    match answer {
-        Err(refusal) => refusal.fault.number(),
-        Ok(()) => 0,
-    }
 }
 
 impl Tally {
@@ -40,7 +53,8 @@ impl Tally {
         Tally {
             plans: 0,
             refused: 0,
-            answers: [0; 25],
+            passed: 0,
+            rejected: FAULTS.map(|fault| Seen { fault, times: 0 }),
             differ: 0,
             source: Source(1736),
         }
@@ -52,10 +66,16 @@ impl Tally {
         }
     }
 
-    fn note_answer(&mut self, number: u16) {
-        if number < 25 {
-            let seen = self.answers[number as usize];
-            self.answers[number as usize] = seen.saturating_add(1);
+    fn note_answer(&mut self, answer: Result<(), Refusal>) {
+        match answer {
+            Ok(()) => self.passed = self.passed.saturating_add(1),
+            Err(refusal) => {
+                for seen in self.rejected.iter_mut() {
+                    if seen.fault == refusal.fault {
+                        seen.times = seen.times.saturating_add(1);
+                    }
+                }
+            }
         }
     }
 
@@ -66,8 +86,8 @@ impl Tally {
         least: &Least,
         proposal: &Proposal,
     ) -> Result<(), Refusal> {
-        let starts = &proposal.starts[0..proposal.bytes.min(6)];
-        let flow = &proposal.flow[0..proposal.words.min(80)];
+        let starts = proposal.starts();
+        let flow = proposal.flow();
         let answer = check(project, starts, flow);
         self.expect(answer == defined_answer(project, starts, flow));
         self.expect(answer.is_err() || cost_of(project, &list_of(starts)) == least.cost);
@@ -84,7 +104,7 @@ impl Tally {
                 damaged.apply(drawn_damage(&mut self.source, project, &network, &damaged));
             }
             let answer = self.try_check(project, least, &damaged);
-            self.note_answer(number_of(answer));
+            self.note_answer(answer);
         }
     }
 
