@@ -29,14 +29,13 @@ pub fn print_file(rt: &HostRuntime, file: &[u8]) -> io::Result<()> {
 
 impl Report<'_, Table<'_>> {
     fn print(&self, shape: Shape) -> io::Result<()> {
-        let rt = self.rt;
         let Shape {
             horizon,
             activities,
             relations,
         } = shape;
-        println!(rt; "{activities} activities, {horizon} days, {relations} relations")?;
-        println!(rt;
+        println!(self.rt; "{activities} activities, {horizon} days, {relations} relations")?;
+        println!(self.rt;
             "durations at byte {}, prices at byte {}, relations at byte {}",
             self.project.durations().place,
             self.project.prices().place,
@@ -49,22 +48,20 @@ impl Report<'_, Table<'_>> {
     }
 
     fn print_activities(&self) -> io::Result<()> {
-        let rt = self.rt;
-        println!(rt; "")?;
-        println!(rt; "activity  duration       floor  open days")?;
+        println!(self.rt; "")?;
+        println!(self.rt; "activity  duration       floor  open days")?;
         for a in 0..self.project.count() {
             let duration = self.project.duration(a).unwrap_or(0);
             let floor = floor_of(self.project, a);
             let open = open_slots_of(self.project, a);
-            println!(rt; "{a:>8}  {duration:>8}  {floor:>10}  {open:>9}")?;
+            println!(self.rt; "{a:>8}  {duration:>8}  {floor:>10}  {open:>9}")?;
         }
         Ok(())
     }
 
     fn print_relations(&self) -> io::Result<()> {
-        let rt = self.rt;
-        println!(rt; "")?;
-        println!(rt; "relations")?;
+        println!(self.rt; "")?;
+        println!(self.rt; "relations")?;
         for number in 0..self.project.lag_count() {
             self.print_relation(number)?;
         }
@@ -72,12 +69,11 @@ impl Report<'_, Table<'_>> {
     }
 
     fn print_relation(&self, number: u16) -> io::Result<()> {
-        let rt = self.rt;
         let (Some(relation), Some(lag)) = (self.project.relation(number), self.project.lag(number))
         else {
             return Ok(());
         };
-        println!(rt;
+        println!(self.rt;
             "{number}: {} (gap {} from {} to {})",
             InWords(relation),
             lag.gap,
@@ -87,9 +83,8 @@ impl Report<'_, Table<'_>> {
     }
 
     fn print_closed(&self) -> io::Result<()> {
-        let rt = self.rt;
-        println!(rt; "")?;
-        println!(rt; "closed days")?;
+        println!(self.rt; "")?;
+        println!(self.rt; "closed days")?;
         for a in 0..self.project.count() {
             if open_slots_of(self.project, a) < self.project.horizon() {
                 self.print_closed_of(a)?;
@@ -99,13 +94,12 @@ impl Report<'_, Table<'_>> {
     }
 
     fn print_closed_of(&self, activity: u16) -> io::Result<()> {
-        let rt = self.rt;
-        print!(rt; "activity {activity}:")?;
+        print!(self.rt; "activity {activity}:")?;
         for slot in (0..self.project.horizon()).map(Slot) {
             if matches!(self.project.price(activity, slot), Some(Price::Closed(_))) {
-                print!(rt; " {}", slot.day())?;
+                print!(self.rt; " {}", slot.day())?;
             }
         }
-        println!(rt; "")
+        println!(self.rt; "")
     }
 }

@@ -13,16 +13,15 @@ use std::io;
 impl<P: Project> Report<'_, P> {
     /// Prints the earliest starts and those of least cost, or why no start list meets the project.
     pub fn print_plans(&self) -> io::Result<()> {
-        let rt = self.rt;
         let mut starts = [0u8; 64];
-        let mut nodes = vec![in rt.alloc(); 0u32; node_words(self.project)]?;
+        let mut nodes = vec![in self.rt.alloc(); 0u32; node_words(self.project)]?;
         let blank = Entry {
             activity: 0,
             slot: Slot(0),
             how: How::Start,
         };
-        let mut chain = vec![in rt.alloc(); blank; chain_entries(self.project)]?;
-        println!(rt; "")?;
+        let mut chain = vec![in self.rt.alloc(); blank; chain_entries(self.project)]?;
+        println!(self.rt; "")?;
         match earliest(
             self.project,
             &mut starts,
@@ -30,7 +29,7 @@ impl<P: Project> Report<'_, P> {
             chain.as_mut_slice(),
         ) {
             Ok(()) => {
-                println!(rt; "earliest starts")?;
+                println!(self.rt; "earliest starts")?;
                 self.print_starts(&starts)?;
                 self.print_cheapest()
             }
@@ -39,10 +38,9 @@ impl<P: Project> Report<'_, P> {
     }
 
     fn print_cheapest(&self) -> io::Result<()> {
-        let rt = self.rt;
         let mut starts = [0u8; 64];
-        let mut flow = vec![in rt.alloc(); 0u64; flow_words(self.project)]?;
-        let mut nodes = vec![in rt.alloc(); 0u32; node_words(self.project)]?;
+        let mut flow = vec![in self.rt.alloc(); 0u64; flow_words(self.project)]?;
+        let mut nodes = vec![in self.rt.alloc(); 0u32; node_words(self.project)]?;
         if let Ok(value) = cheapest(
             self.project,
             &mut starts,
@@ -50,8 +48,8 @@ impl<P: Project> Report<'_, P> {
             nodes.as_mut_slice(),
         ) {
             let cost = sum_of_floors(self.project) as i128 + value as i128;
-            println!(rt; "")?;
-            println!(rt; "cheapest starts, cost {cost}")?;
+            println!(self.rt; "")?;
+            println!(self.rt; "cheapest starts, cost {cost}")?;
             self.print_checked(&starts, flow.as_slice())?;
         }
         if latest(
@@ -62,8 +60,8 @@ impl<P: Project> Report<'_, P> {
         )
         .is_ok()
         {
-            println!(rt; "")?;
-            println!(rt; "latest starts of that cost")?;
+            println!(self.rt; "")?;
+            println!(self.rt; "latest starts of that cost")?;
             self.print_checked(&starts, flow.as_slice())?;
         }
         Ok(())
@@ -71,11 +69,12 @@ impl<P: Project> Report<'_, P> {
 
     // A plan, and what the check says to it.
     fn print_checked(&self, starts: &[u8; 64], flow: &[u64]) -> io::Result<()> {
-        let rt = self.rt;
         self.print_starts(starts)?;
         match check(self.project, starts, flow) {
-            Ok(()) => println!(rt; "checked: no start list that meets this campaign costs less"),
-            Err(refusal) => println!(rt;
+            Ok(()) => println!(self.rt;
+                "checked: no start list that meets this campaign costs less"
+            ),
+            Err(refusal) => println!(self.rt;
                 "the check refuses this: {} {}",
                 refusal.fault.number(),
                 refusal.place
@@ -84,22 +83,20 @@ impl<P: Project> Report<'_, P> {
     }
 
     fn print_starts(&self, starts: &[u8; 64]) -> io::Result<()> {
-        let rt = self.rt;
         let count = self.project.count() as usize;
         for (a, start) in starts.iter().take(count).enumerate() {
             let day = Slot(*start as u16).day();
-            println!(rt; "activity {a}: day {day}")?;
+            println!(self.rt; "activity {a}: day {day}")?;
         }
         Ok(())
     }
 
     fn print_chain(&self, chain: &[Entry], length: u16) -> io::Result<()> {
-        let rt = self.rt;
-        println!(rt; "no start list meets this campaign")?;
+        println!(self.rt; "no start list meets this campaign")?;
         for entry in chain.iter().take(length as usize) {
-            println!(rt; "{}", InWords(*entry))?;
+            println!(self.rt; "{}", InWords(*entry))?;
         }
         let days = self.project.horizon();
-        println!(rt; "but there are {days} days")
+        println!(self.rt; "but there are {days} days")
     }
 }

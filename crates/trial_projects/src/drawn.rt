@@ -6,6 +6,7 @@ use model::lag::Lag;
 use model::price::Price;
 use model::project::Project;
 use model::time::Slot;
+use std::array::from_fn;
 
 /// A lag as it is drawn.
 #[derive(Clone, Copy, Default)]
@@ -43,7 +44,7 @@ impl<const BASE: u8> Drawn<BASE> {
     fn activities(&self) -> u8
         ensures { result ≡ count_of self.now }
     {
-        self.count.min(4).max(1)
+        self.count.clamp(1, 4)
     }
 }
 
@@ -57,7 +58,7 @@ impl<const BASE: u8> Project for Drawn<BASE> {
     }
 
     fn horizon(&self) -> u16 {
-        self.horizon.min(6).max(1) as u16
+        self.horizon.clamp(1, 6) as u16
     }
 
     fn duration(&self, activity: u16) -> Option<u16> {
@@ -120,11 +121,7 @@ impl Source {
     }
 
     fn cells(&mut self, kept_bits: u8, set_bits: u8) -> [u8; 32] {
-        let mut cells = [0; 32];
-        for cell in cells.iter_mut() {
-            *cell = (self.byte() & kept_bits) | set_bits;
-        }
-        cells
+        from_fn(|_| (self.byte() & kept_bits) | set_bits)
     }
 
     fn coarse_cells(&mut self) -> [u8; 32] {
@@ -164,12 +161,7 @@ impl Source {
         Drawn {
             count: 1 + self.byte() % counts,
             horizon: 1 + self.byte() % horizons,
-            durations: [
-                self.byte() % 4,
-                self.byte() % 4,
-                self.byte() % 4,
-                self.byte() % 4,
-            ],
+            durations: from_fn(|_| self.byte() % 4),
             cells,
             lags: self.byte() % lag_counts,
             links: self.links(),

@@ -27,14 +27,14 @@ fn holds(lag: Lag, starts: &Starts) -> bool {
 
 /// The least activity of a project that a list does not start in an open slot.
 pub fn first_not_open<P: Project>(project: &P, starts: &Starts) -> Option<u16> {
-    (0..project.count())
-        .find(|a| open_price(project, *a, start_of(starts, *a) as u16).is_none())
+    (0..project.count()).find(|a| open_price(project, *a, start_of(starts, *a) as u16).is_none())
 }
 
 /// The least lag of a project that a list breaks.
 pub fn first_broken<P: Project>(project: &P, starts: &Starts) -> Option<u16> {
-    (0..project.lag_count())
-        .find(|number| project.lag(*number).is_some_and(|lag| !holds(lag, starts)))
+    (0..project.lag_count()).find(|number| project
+        .lag(*number)
+        .is_some_and(|lag| !holds(lag, starts)))
 }
 
 /// Whether a list meets a project of at most four activities.

@@ -6,7 +6,10 @@ pub const FILLER: u8 = 77;
 
 /// Whether memory holds what it was filled with, from a place on.
 pub fn untouched<T: PartialEq + From<u8> + Drop>(memory: &[T], from: usize) -> bool {
-    memory.iter().skip(from).all(|held| *held == T::from(FILLER))
+    memory
+        .iter()
+        .skip(from)
+        .all(|held| *held == T::from(FILLER))
 }
 
 /// Whether so many node words are zero, and those past them are untouched.
