@@ -57,15 +57,11 @@ fn judge<P: Project>(project: &P, answer: Result<(), Refusal>, memory: &Lent) ->
         (Some(list), Ok(()))
             if written(&memory.starts, &list, project.count()) && is_untouched(&memory.chain) =>
             Verdict::Starts,
-        (
-            None,
-            Err(
-                Refusal {
-                    fault: Fault::Impossible,
-                    place,
-                },
-            ),
-        ) if shows_impossible(project, place, memory) => Verdict::Impossible(place),
+        (None, Err(refusal))
+            if refusal.fault == Fault::Impossible
+                && shows_impossible(project, refusal.place, memory) => Verdict::Impossible(
+            refusal.place,
+        ),
         _ => Verdict::Differs,
     }
 }
@@ -118,11 +114,7 @@ pub fn memory_is_tested<P: Project>(project: &P) -> bool {
         && answer_with(project, count, nodes, entries - 1)
             == Err(Fault::ChainEntries.at(entries as u16))
         && matches!(
-            answer_with(project, count, nodes, entries),
-            Ok(())
-                | Err(Refusal {
-                    fault: Fault::Impossible,
-                    ..
-                })
+            answer_with(project, count, nodes, entries).map_err(|refusal| refusal.fault),
+            Ok(()) | Err(Fault::Impossible)
         )
 }
