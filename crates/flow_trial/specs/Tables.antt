@@ -1,6 +1,6 @@
 -- What a table of arcs means as a network, and how its answers list the arcs of a node: one by one, from
 -- the cursor on.
-use Rattle.std.specs.Prelude.{◌≡◌, ℕ, zero, suc, ◌+◌, ◌-◌, ◌<◌, ◌≤◌, min, max, Bool, true, false, cond, Some, None, Option, ◌==◌, slice_index_or, length, refl}
+use Rattle.std.specs.Prelude.{◌≡◌, ℕ, zero, suc, ◌+◌, ◌-◌, ◌<◌, ◌≤◌, min, max, Bool, true, false, cond, Some, None, Option, MatchOption, ◌==◌, slice_index_or, length, refl}
 use Rattle.std.proofs.Common.{arith, sym, ap, ◌∙◌, ⊎_elim}
 use Rattle.std.proofs.lemmas.Bool.{eqb-true, eqb-false, cases_eq}
 use Rattle.flow.specs.declared.network.Arc.{Arc}
@@ -148,6 +148,12 @@ module _ (near far : ℕ → ℕ) (v : ℕ) where
 abbrev pub end_of : End → Net → ℕ → ℕ
 end_of Tail n = n.tail
 end_of Head n = n.head
+
+-- r is the first arc from c on whose end is v, if there is one
+abbrev pub IsFirstAt : (end : ℕ → ℕ) → ℕ → ℕ → ℕ → Option ℕ → Type 0
+IsFirstAt end arcs v c r =
+    MatchOption r ((k : ℕ) → c ≤ k → k < arcs → end k ≡ v → ⊥)
+    (λ i. (c ≤ i) × (i < arcs) × (end i ≡ v) × ((k : ℕ) → c ≤ k → k < i → end k ≡ v → ⊥))
 
 -- what is listed of the arcs whose near end is a node
 abbrev pub listed_at : (near far : End) → Table → ℕ → ℕ → Option Step

@@ -90,16 +90,18 @@ impl Table {
         }
     }
 
-    // The next arc, from a cursor on, whose near end is this node.
+    // The first arc, from a cursor on, with this node at an end.
+    fn first_at(&self, end: End, node: usize, cursor: usize) -> Option<usize>
+        ensures { tables.IsFirstAt (tables.end_of end (tables.table_net self.now)) (tables.table_net self.now).arcs node cursor result }
+    {
+        (cursor..self.arc_count()).find(|k| self.end(end, *k) == node)
+    }
+
     fn listed(&self, near: End, far: End, at: usize, cursor: usize) -> Option<Step>
         ensures { result ≡ tables.listed_at near far self.now at cursor }
     {
-        for k in cursor..self.arc_count() {
-            if self.end(near, k) == at {
-                return Some(told(k, self.end(far, k)));
-            }
-        }
-        None
+        let k = self.first_at(near, at, cursor)?;
+        Some(told(k, self.end(far, k)))
     }
 }
 
