@@ -17,7 +17,7 @@ count_of d = max (min d.count 4) 1
 abbrev pub horizon_of : {base : ℕ} → Drawn base → ℕ
 horizon_of d = max (min d.horizon 6) 1
 
--- bytes below 64 are closed slots, and another is a price above `base`
+-- bytes below 64 are closed slots, and the price of any other is the byte less `base`
 abbrev pub cell : ℕ → ℕ → Price
 cell base b = cond (nat_lt b 64) (Closed 0) (Open (pos b -ℤ pos base))
 
