@@ -13,6 +13,6 @@ fn main(rt: HostRuntime) -> io::Result<()> {
     let mut buffer = vec![in rt.alloc(); 0u8; 65_536]?;
     match read_file(&mut rt.stdin(), buffer.as_mut_slice())? {
         None => println!(rt; "The file is longer than 65535 bytes; no table file is."),
-        Some(length) => report::print_file(&rt, &buffer.as_slice()[..length]),
+        Some(file) => report::print_file(&rt, file),
     }
 }
