@@ -1,5 +1,5 @@
 // The trials of a project, and how often each thing was seen in them.
-use crate::calls::{Called, SPACIOUS, memory_is_tested};
+use crate::calls::{SPACIOUS, Task};
 use crate::checker::{defined_answer, list_of};
 use crate::damage::{Proposal, drawn_damage};
 use crate::least::{Least, cost_of, lists_of_least_cost};
@@ -108,18 +108,18 @@ impl Tally {
         }
     }
 
-    fn try_side<P: Project>(&mut self, side: Side, project: &P, least: Option<Least>) {
-        let called = Called::with(side, project, SPACIOUS);
-        self.expect(called.is_as_promised(side, project, least));
-        self.expect(memory_is_tested(side, project, least));
-        match least {
+    fn try_task<P: Project>(&mut self, task: &Task<'_, P>) {
+        let called = task.call(SPACIOUS);
+        self.expect(task.is_as_promised(&called));
+        self.expect(task.memory_is_tested());
+        match task.least {
             None => self.refused = self.refused.saturating_add(1),
             Some(least) => {
                 let found = Proposal::of(&called);
-                let answer = self.try_check(project, &least, &found);
+                let answer = self.try_check(task.project, &least, &found);
                 self.expect(answer.is_ok());
                 self.plans = self.plans.saturating_add(1);
-                self.try_damages(project, &least, &found);
+                self.try_damages(task.project, &least, &found);
             }
         }
     }
@@ -128,7 +128,12 @@ impl Tally {
 impl Trial for Tally {
     fn on<P: Project>(&mut self, project: &P) {
         let least = lists_of_least_cost(project);
-        self.try_side(Side::Early, project, least);
-        self.try_side(Side::Late, project, least);
+        for side in [Side::Early, Side::Late] {
+            self.try_task(&Task {
+                side,
+                project,
+                least,
+            });
+        }
     }
 }
