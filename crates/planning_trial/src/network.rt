@@ -98,12 +98,11 @@ fn node_at(horizon: u16, activity: u16, slot: u16) -> u16 {
 
 fn arc_on<P: Project>(project: &P, activity: u16, slot: u16) -> Arc {
     let horizon = project.horizon();
+    let floor = floor_of(project, activity);
     Arc {
         tail: node_at(horizon, activity, slot),
         head: node_at(horizon, activity, slot.saturating_add(1)),
-        capacity: open_price(project, activity, slot).map(|price| price.abs_diff(floor_of(
-            project, activity,
-        ))),
+        capacity: open_price(project, activity, slot).map(|price| price.abs_diff(floor)),
     }
 }
 

@@ -17,8 +17,9 @@ pub struct Link {
     pub gap: u8,
 }
 
-/// A project of one to four activities in one to six slots, with up to four lags. Any bytes make one:
-/// what is too large is cut. The price of an open slot is its byte less `BASE`.
+/// A project of one to four activities in one to six slots, with up to four lags. The counts stand beside whole
+/// arrays, so that any bytes make a project: what is too large is cut. The price of an open slot is its byte less
+/// `BASE`.
 #[derive(Clone, Copy)]
 pub struct Drawn<const BASE: u8> {
     pub count: u8,
