@@ -6,6 +6,7 @@ use earliest::earliest::{chain_entries, earliest, node_words};
 use model::project::Project;
 use model::refusal::{Fault, Refusal};
 use model::time::Slot;
+use trial_projects::memory::{FILLER, cleared, untouched, written};
 
 const UNTOUCHED: Entry = Entry {
     activity: 99,
@@ -26,92 +27,41 @@ pub enum Verdict {
 
 /// Memory enough for any project of four activities and six slots, and some to spare.
 #[derive(Clone, Copy)]
-pub struct Lent {
-    pub starts: [u8; 6],
-    pub nodes: [u32; 96],
-    pub chain: [Entry; 32],
+struct Lent {
+    starts: [u8; 6],
+    nodes: [u32; 96],
+    chain: [Entry; 32],
 }
 
 fn untouched_memory() -> Lent {
     Lent {
-        starts: [77; 6],
-        nodes: [77; 96],
+        starts: [FILLER; 6],
+        nodes: [FILLER as u32; 96],
         chain: [UNTOUCHED; 32],
     }
 }
 
-fn nodes_as_promised(nodes: &[u32], taken: usize) -> bool {
-    for place in 0..nodes.len() {
-        if nodes[place] != (if place < taken { 0 } else { 77 }) {
-            return false;
-        }
-    }
-    true
+fn is_untouched(chain: &[Entry]) -> bool {
+    chain.iter().all(|entry| *entry == UNTOUCHED)
 }
 
-fn starts_from(starts: &[u8], from: usize) -> bool {
-    for place in from..starts.len() {
-        if starts[place] != 77 {
-            return false;
-        }
-    }
-    true
-}
-
-fn chain_from(chain: &[Entry], from: usize) -> bool {
-    for place in from..chain.len() {
-        if chain[place].activity != 99 {
-            return false;
-        }
-    }
-    true
-}
-
-fn same_starts(starts: &[u8], list: &[u8; 4], count: u16) -> bool {
-    for activity in 0..count as usize {
-        if activity >= 4 || activity >= starts.len() || starts[activity] != list[activity] {
-            return false;
-        }
-    }
-    true
-}
-
-fn refused_impossible(answer: Result<(), Refusal>) -> Option<u16> {
-    match answer {
-        Err(refusal) => match refusal.fault {
-            Fault::Impossible => Some(refusal.place),
-            _ => None,
-        },
-        Ok(()) => None,
-    }
+fn shows_impossible<P: Project>(project: &P, length: u16, memory: &Lent) -> bool {
+    let Some((chain, rest)) = memory.chain.split_at_checked(length as usize) else {
+        return false;
+    };
+    is_chain(project, chain) && is_untouched(rest) && untouched(&memory.starts, 0)
 }
 
 fn judge<P: Project>(project: &P, answer: Result<(), Refusal>, memory: &Lent) -> Verdict {
-    let count = project.count();
-    match (first_to_meet(project), refused_impossible(answer)) {
-        (Some(list), None) => {
-            if answer.is_ok()
-                && same_starts(&memory.starts, &list, count)
-                && starts_from(&memory.starts, count as usize)
-                && chain_from(&memory.chain, 0)
-            {
-                Verdict::Starts
-            } else {
-                Verdict::Differs
-            }
-        }
-        (None, Some(length)) => {
-            let end = length as usize;
-            if end <= memory.chain.len()
-                && is_chain(project, &memory.chain[0..end])
-                && starts_from(&memory.starts, 0)
-                && chain_from(&memory.chain, end)
-            {
-                Verdict::Impossible(length)
-            } else {
-                Verdict::Differs
-            }
-        }
+    match (first_to_meet(project), answer) {
+        (Some(list), Ok(()))
+            if written(&memory.starts, &list, project.count()) && is_untouched(&memory.chain) =>
+            Verdict::Starts,
+        (None, Err(refusal))
+            if refusal.fault == Fault::Impossible
+                && shows_impossible(project, refusal.place, memory) => Verdict::Impossible(
+            refusal.place,
+        ),
         _ => Verdict::Differs,
     }
 }
@@ -125,33 +75,27 @@ pub fn compare<P: Project>(project: &P) -> Verdict {
         &mut memory.nodes,
         &mut memory.chain,
     );
-    if !nodes_as_promised(&memory.nodes, node_words(project)) {
-        return Verdict::Differs;
+    if cleared(&memory.nodes, node_words(project)) {
+        judge(project, answer, &memory)
+    } else {
+        Verdict::Differs
     }
-    judge(project, answer, &memory)
 }
 
-// The number and the place of the refusal with this much memory; 0 and 0 if there is none.
-fn refusal_with<P: Project>(
+// The answer with this much memory, or with all that there is where this is more.
+fn answer_with<P: Project>(
     project: &P,
     starts: usize,
     nodes: usize,
     entries: usize,
-) -> (u16, u16) {
+) -> Result<(), Refusal> {
     let mut memory = untouched_memory();
-    if starts > memory.starts.len() || nodes > memory.nodes.len() || entries > memory.chain.len() {
-        return (0, 0);
-    }
-    let answer = earliest(
+    earliest(
         project,
-        &mut memory.starts[0..starts],
-        &mut memory.nodes[0..nodes],
-        &mut memory.chain[0..entries],
-    );
-    match answer {
-        Err(refusal) => (refusal.fault.number(), refusal.place),
-        Ok(()) => (0, 0),
-    }
+        &mut memory.starts[..starts.min(6)],
+        &mut memory.nodes[..nodes.min(96)],
+        &mut memory.chain[..entries.min(32)],
+    )
 }
 
 /// Whether each memory that is one short is refused with the length needed, in order, and exactly
@@ -163,9 +107,14 @@ pub fn memory_is_tested<P: Project>(project: &P) -> bool {
     if nodes > 96 || entries > 32 || count > 6 || count == 0 || nodes == 0 || entries == 0 {
         return false;
     }
-    let (exact, _) = refusal_with(project, count, nodes, entries);
-    refusal_with(project, count - 1, nodes - 1, entries - 1) == (13, count as u16)
-        && refusal_with(project, count, nodes - 1, entries - 1) == (15, nodes as u16)
-        && refusal_with(project, count, nodes, entries - 1) == (16, entries as u16)
-        && (exact == 0 || exact == 18)
+    answer_with(project, count - 1, nodes - 1, entries - 1)
+        == Err(Fault::StartBytes.at(count as u16))
+        && answer_with(project, count, nodes - 1, entries - 1)
+            == Err(Fault::NodeWords.at(nodes as u16))
+        && answer_with(project, count, nodes, entries - 1)
+            == Err(Fault::ChainEntries.at(entries as u16))
+        && matches!(
+            answer_with(project, count, nodes, entries).map_err(|refusal| refusal.fault),
+            Ok(()) | Err(Fault::Impossible)
+        )
 }

@@ -3,19 +3,16 @@
 // every start list, and prints what came out.
 mod brute;
 mod compare;
-mod drawn;
 mod worked;
 
 use compare::{Verdict, compare, memory_is_tested};
-use drawn::{Drawn, Source};
-use layers::calendar::Calendar;
-use layers::lateness::Lateness;
-use layers::layered::Layered;
-use model::time::Slot;
+use model::project::Project;
 use std::io;
+use trial_projects::drawn::Spread;
+use trial_projects::stacks::{Trial, try_projects};
 
 /// How many trials ended in which way.
-#[derive(Clone, Copy)]
+#[derive(Clone, Copy, Default)]
 struct Tally {
     starts: u32,
     impossible: u32,
@@ -25,22 +22,6 @@ struct Tally {
 }
 
 impl Tally {
-    fn fresh() -> Tally {
-        Tally {
-            starts: 0,
-            impossible: 0,
-            longest: 0,
-            differ: 0,
-            tested: 0,
-        }
-    }
-
-    fn note_memory(&mut self, as_promised: bool) {
-        if as_promised {
-            self.tested = self.tested.saturating_add(1);
-        }
-    }
-
     fn note(&mut self, verdict: Verdict) {
         match verdict {
             Verdict::Starts => self.starts = self.starts.saturating_add(1),
@@ -53,52 +34,20 @@ impl Tally {
     }
 }
 
-fn drawn_calendar(source: &mut Source) -> Calendar {
-    let mut calendar = Calendar::fresh();
-    let _ = calendar.set(Slot(source.byte() as u16 % 6), true);
-    let _ = calendar.set(Slot(source.byte() as u16 % 6), true);
-    calendar
-}
-
-fn drawn_lateness(source: &mut Source) -> Lateness {
-    let mut lateness = Lateness::fresh();
-    let _ = lateness.set(
-        source.byte() as u16 % 4,
-        source.byte() as u32 % 8,
-        source.byte() as u32,
-    );
-    lateness
-}
-
-// Bare, under a calendar, under lateness on that, and under another calendar on both.
-fn try_stack(source: &mut Source, project: Drawn, tally: &mut Tally) {
-    tally.note(compare(&project));
-    let first = Layered {
-        below: project,
-        rule: drawn_calendar(source),
-    };
-    tally.note(compare(&first));
-    let second = Layered {
-        below: first,
-        rule: drawn_lateness(source),
-    };
-    tally.note(compare(&second));
-    let third = Layered {
-        below: second,
-        rule: drawn_calendar(source),
-    };
-    tally.note(compare(&third));
+impl Trial for Tally {
+    fn on<P: Project>(&mut self, project: &P) {
+        self.note(compare(project));
+        let is_bare = project.height() == 0;
+        if is_bare && memory_is_tested(project) {
+            self.tested = self.tested.saturating_add(1);
+        }
+    }
 }
 
 fn main(rt: HostRuntime) -> io::Result<()> {
     worked::print_examples(&rt)?;
-    let mut source = Source(2003);
-    let mut tally = Tally::fresh();
-    for _ in 0..200 {
-        let project = source.draw();
-        try_stack(&mut source, project, &mut tally);
-        tally.note_memory(memory_is_tested(&project));
-    }
+    let mut tally = Tally::default();
+    try_projects::<Tally, 64>(&mut tally, Spread::Even);
     let Tally {
         starts,
         impossible,

@@ -1,57 +1,56 @@
 // The worked examples, run.
-use crate::drawn::Drawn;
 use earliest::chain::{Entry, How};
 use earliest::earliest::earliest;
 use layers::calendar::Calendar;
 use layers::layered::Layered;
 use model::project::Project;
+use model::refusal::Refusal;
 use model::time::Slot;
 use std::io;
+use trial_projects::drawn::{Drawn, Link};
 
 // Two activities in four slots at prices 5 3 4 6 and 9 7 2 6; the second starts 2 slots after the first.
-fn two_in_four() -> Drawn {
+fn two_in_four() -> Drawn<64> {
     let mut cells = [0; 32];
-    cells[0] = 69;
-    cells[1] = 67;
-    cells[2] = 68;
-    cells[3] = 70;
-    cells[8] = 73;
-    cells[9] = 71;
-    cells[10] = 66;
-    cells[11] = 70;
+    cells[..4].copy_from_slice(&[69, 67, 68, 70]);
+    cells[8..12].copy_from_slice(&[73, 71, 66, 70]);
     Drawn {
         count: 2,
         horizon: 4,
         durations: [2, 1, 0, 0],
         cells,
         lags: 1,
-        from: [0; 4],
-        to: [1; 4],
-        gap: [6; 4],
+        links: [Link {
+            from: 0,
+            to: 1,
+            gap: 6,
+        }; 4],
     }
 }
 
 // One activity in two slots, with a lag of 1 to itself.
-fn after_itself() -> Drawn {
+fn after_itself() -> Drawn<64> {
     Drawn {
         count: 1,
         horizon: 2,
         durations: [0; 4],
         cells: [68; 32],
         lags: 1,
-        from: [0; 4],
-        to: [0; 4],
-        gap: [5; 4],
+        links: [Link {
+            from: 0,
+            to: 0,
+            gap: 5,
+        }; 4],
     }
 }
 
 fn print_chain(rt: &HostRuntime, chain: &[Entry]) -> io::Result<()> {
-    for entry in chain {
-        let how = entry.how.code();
-        let activity = entry.activity;
-        let slot = entry.slot.0;
-        let number = entry.how.number();
-        print!(rt; " ({how},{activity},{slot},{number})")?;
+    for Entry {
+        activity,
+        slot,
+        how,
+    } in chain {
+        print!(rt; " ({},{activity},{},{})", how.code(), slot.0, how.number())?;
     }
     println!(rt; "")
 }
@@ -66,17 +65,14 @@ fn print_outcome<P: Project>(rt: &HostRuntime, project: &P) -> io::Result<()> {
     }; 32];
     match earliest(project, &mut starts, &mut nodes, &mut chain) {
         Ok(()) => {
-            for activity in 0..project.count().min(4) {
-                let start = starts[activity as usize];
+            for start in starts.iter().take(project.count() as usize) {
                 print!(rt; " {start}")?;
             }
             println!(rt; "")
         }
-        Err(refusal) => {
-            let number = refusal.fault.number();
-            let place = refusal.place;
-            print!(rt; " refused {number} {place}:")?;
-            print_chain(rt, &chain[0..(place as usize).min(32)])
+        Err(Refusal { fault, place }) => {
+            print!(rt; " refused {} {place}:", fault.number())?;
+            print_chain(rt, &chain[..(place as usize).min(32)])
         }
     }
 }

@@ -1,6 +1,6 @@
 -- What a table of arcs means as a network, and how its answers list the arcs of a node: one by one, from
 -- the cursor on.
-use Rattle.std.specs.Prelude.{◌≡◌, ℕ, zero, suc, ◌+◌, ◌-◌, ◌<◌, ◌≤◌, min, max, Bool, true, false, cond, Some, None, Option, ◌==◌, slice_index_or, refl}
+use Rattle.std.specs.Prelude.{◌≡◌, ℕ, zero, suc, ◌+◌, ◌-◌, ◌<◌, ◌≤◌, min, max, Bool, true, false, cond, Some, None, Option, MatchOption, ◌==◌, slice_index_or, length, refl}
 use Rattle.std.proofs.Common.{arith, sym, ap, ◌∙◌, ⊎_elim}
 use Rattle.std.proofs.lemmas.Bool.{eqb-true, eqb-false, cases_eq}
 use Rattle.flow.specs.declared.network.Arc.{Arc}
@@ -10,12 +10,14 @@ use Rattle.flow.specs.declared.network.Capacity.TheVariants.{Bounded, Unbounded}
 use Rattle.flow.specs.Nets.{Net, Bounds}
 use Rattle.flow.specs.Answers.{Told, now_told, later_told, Lists, Adjacent}
 use Rattle.flow_trial.specs.declared.table.Table.{Table}
+use Rattle.flow_trial.specs.declared.table.End.{End}
+use Rattle.flow_trial.specs.declared.table.End.TheVariants.{Tail, Head}
 
 abbrev pub blank : Arc
 blank = record { tail = 0; head = 0; capacity = Unbounded }
 
 abbrev pub entry_of : Table → ℕ → Arc
-entry_of x k = slice_index_or x.arcs k blank
+entry_of x k = slice_index_or x.arcs.items k blank
 
 abbrev pub nodes_of : Table → ℕ
 nodes_of x = min (max x.nodes 2) 8
@@ -38,7 +40,7 @@ abbrev pub table_net : Table → Net
 table_net x =
     record {
       nodes = nodes_of x;
-      arcs = min x.used 16;
+      arcs = min (length x.arcs.items) 16;
       tail = λ k. node_in x (entry_of x k).tail;
       head = λ k. node_in x (entry_of x k).head;
       capacity = λ k. amount (entry_of x k).capacity;
@@ -143,11 +145,25 @@ module _ (near far : ℕ → ℕ) (v : ℕ) where
         complete = λ k b e. told_from n.arcs k e b n.arcs 0 (omega arith) (omega arith);
       }
 
+abbrev pub end_of : End → Net → ℕ → ℕ
+end_of Tail n = n.tail
+end_of Head n = n.head
+
+-- r is the first arc from c on whose end is v, if there is one
+abbrev pub IsFirstAt : (end : ℕ → ℕ) → ℕ → ℕ → ℕ → Option ℕ → Type 0
+IsFirstAt end arcs v c r =
+    MatchOption r ((k : ℕ) → c ≤ k → k < arcs → end k ≡ v → ⊥)
+    (λ i. (c ≤ i) × (i < arcs) × (end i ≡ v) × ((k : ℕ) → c ≤ k → k < i → end k ≡ v → ⊥))
+
+-- what is listed of the arcs whose near end is a node
+abbrev pub listed_at : (near far : End) → Table → ℕ → ℕ → Option Step
+listed_at near far x v c = listed (end_of near (table_net x)) (end_of far (table_net x)) (table_net x).arcs v c
+
 abbrev pub leaving_of : Table → ℕ → ℕ → Option Step
-leaving_of x v c = listed (table_net x).tail (table_net x).head (table_net x).arcs v c
+leaving_of x v c = listed_at Tail Head x v c
 
 abbrev pub entering_of : Table → ℕ → ℕ → Option Step
-entering_of x v c = listed (table_net x).head (table_net x).tail (table_net x).arcs v c
+entering_of x v c = listed_at Head Tail x v c
 
 pub table_adjacent : (x : Table) → Adjacent (table_net x) (leaving_of x) (entering_of x)
 table_adjacent x =

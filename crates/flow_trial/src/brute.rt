@@ -11,36 +11,21 @@ fn on_source_side(set: u32, node: usize) -> bool {
     }
 }
 
-/// A sum with one capacity more; none past an unbounded one.
-fn added(sum: Option<u64>, capacity: Capacity) -> Option<u64> {
-    match (sum, capacity) {
-        (Some(sum), Capacity::Bounded(most)) => Some(sum.saturating_add(most as u64)),
-        _ => None,
-    }
-}
-
 /// The capacity of a cut; none if an unbounded arc leaves it.
 pub fn cut_capacity(table: &Table, set: u32) -> Option<u64> {
-    let mut sum = Some(0);
-    for k in 0..table.used.min(16) {
-        let arc = table.arcs[k];
+    let mut sum = 0u64;
+    for arc in table.arcs.iter().take(16) {
         if on_source_side(set, arc.tail) && !on_source_side(set, arc.head) {
-            sum = added(sum, arc.capacity);
+            let Capacity::Bounded(most) = arc.capacity else {
+                return None;
+            };
+            sum = sum.saturating_add(most as u64);
         }
     }
-    sum
+    Some(sum)
 }
 
 /// The least capacity of all cuts; none if an unbounded arc leaves each of them.
 pub fn least_cut(table: &Table) -> Option<u64> {
-    let mut least = None;
-    for set in 0..64 {
-        if let Some(capacity) = cut_capacity(table, set) {
-            least = match least {
-                None => Some(capacity),
-                Some(other) => Some(capacity.min(other)),
-            };
-        }
-    }
-    least
+    (0..64).filter_map(|set| cut_capacity(table, set)).min()
 }

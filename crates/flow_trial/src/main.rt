@@ -7,18 +7,15 @@ mod textbook;
 mod trial;
 
 use crate::random::{Generator, random_network};
-use crate::textbook::textbook_network;
+use crate::textbook::EXAMPLES;
 use crate::trial::{Verdict, tried};
 use std::io;
-
-const TEXTBOOK: usize = 12;
 
 const RANDOM: usize = 400;
 
 fn main(rt: HostRuntime) -> io::Result<()> {
-    for number in 0..TEXTBOOK {
-        let example = textbook_network(number);
-        match tried(&example) {
+    for (number, example) in EXAMPLES.iter().enumerate() {
+        match tried(&example.table(rt.alloc())?) {
             Verdict::Agrees(value) => println!(rt;
                 "textbook {number}: value {value}, as the least cut"
             )?,
@@ -31,7 +28,7 @@ fn main(rt: HostRuntime) -> io::Result<()> {
     let mut refused = 0u32;
     let mut differ = 0u32;
     for _ in 0..RANDOM {
-        match tried(&random_network(&mut generator)) {
+        match tried(&random_network(rt.alloc(), &mut generator)?) {
             Verdict::Agrees(_) => agree = agree.saturating_add(1),
             Verdict::Refused => refused = refused.saturating_add(1),
             Verdict::Differs => differ = differ.saturating_add(1),

@@ -1,24 +1,25 @@
 // A network that is a list of arcs, small enough to be tried against all its cuts. Numbers out of range are
 // cut down to the nearest that is allowed, so that every table is a network.
-ghost use Rattle.std.specs.Prelude.{◌≡◌, ℕ, ◌+◌, ◌<◌, ◌≤◌, min};
+ghost use Rattle.std.specs.Prelude.{◌≡◌, ◌<◌};
+ghost use Rattle.flow.specs.Answers.{arc_at};
 ghost use Rattle.flow_trial.specs.Tables as tables;
 
 use flow::network::{Arc, Capacity, Network, Step};
+use std::alloc::{AllocError, Global};
 
-/// A node count, and arcs of which the first `used` count.
-#[derive(Clone, Copy)]
+/// A node count, and arcs of which the first 16 count.
+#[derive(Drop)]
 pub struct Table {
     pub nodes: usize,
-    pub used: usize,
-    pub arcs: [Arc; 16],
+    pub arcs: Vec<Arc>,
 }
 
-/// An arc that stands where a table has none.
-pub const BLANK: Arc = Arc {
-    tail: 0,
-    head: 0,
-    capacity: Capacity::Unbounded,
-};
+/// An end of an arc.
+#[derive(Clone, Copy)]
+pub enum End {
+    Tail,
+    Head,
+}
 
 fn limit(capacity: Capacity) -> Capacity
     ensures { result ≡ tables.limited capacity }
@@ -27,33 +28,6 @@ fn limit(capacity: Capacity) -> Capacity
         Capacity::Bounded(most) => Capacity::Bounded(most.min(2_000_000_000)),
         Capacity::Unbounded => Capacity::Unbounded,
     }
-}
-
-fn node(table: &Table, v: usize) -> usize
-    ensures { result ≡ tables.node_in table.now v }
-{
-    v.min(table.nodes.max(2).min(8) - 1)
-}
-
-fn entry(table: &Table, k: usize) -> Arc
-    requires { k < 16 }
-    ensures { result ≡ tables.entry_of table.now k }
-{
-    table.arcs[k]
-}
-
-fn tail(table: &Table, k: usize) -> usize
-    requires { k < 16 }
-    ensures { result ≡ (tables.table_net table.now).tail k }
-{
-    node(table, entry(table, k).tail)
-}
-
-fn head(table: &Table, k: usize) -> usize
-    requires { k < 16 }
-    ensures { result ≡ (tables.table_net table.now).head k }
-{
-    node(table, entry(table, k).head)
 }
 
 /// What is told of an arc: the next cursor is past it.
@@ -65,6 +39,69 @@ fn told(arc: usize, node: usize) -> Step
         arc,
         node,
         next: arc + 1,
+    }
+}
+
+impl Table {
+    /// A table without arcs.
+    pub fn new(alloc: Global, nodes: usize) -> Table {
+        Table {
+            nodes,
+            arcs: Vec::new(alloc),
+        }
+    }
+
+    /// Adds an arc.
+    pub fn add(&mut self, tail: usize, head: usize, capacity: Capacity) -> Result<(), AllocError> {
+        self.arcs.push(Arc {
+            tail,
+            head,
+            capacity,
+        })?;
+        Ok(())
+    }
+
+    fn node(&self, v: usize) -> usize
+        ensures { result ≡ tables.node_in self.now v }
+    {
+        v.min(self.node_count() - 1)
+    }
+
+    // An arc within what is allowed.
+    fn within(&self, k: usize) -> Arc
+        requires { k < (tables.table_net self.now).arcs }
+        ensures { result ≡ arc_at (tables.table_net self.now) k }
+    {
+        let arc = self.arcs[k];
+        Arc {
+            tail: self.node(arc.tail),
+            head: self.node(arc.head),
+            capacity: limit(arc.capacity),
+        }
+    }
+
+    fn end(&self, end: End, k: usize) -> usize
+        requires { k < (tables.table_net self.now).arcs }
+        ensures { result ≡ tables.end_of end (tables.table_net self.now) k }
+    {
+        match end {
+            End::Tail => self.within(k).tail,
+            End::Head => self.within(k).head,
+        }
+    }
+
+    // The first arc, from a cursor on, with this node at an end.
+    fn first_at(&self, end: End, node: usize, cursor: usize) -> Option<usize>
+        ensures { tables.IsFirstAt (tables.end_of end (tables.table_net self.now)) (tables.table_net self.now).arcs node cursor result }
+    {
+        (cursor..self.arc_count()).find(|k| self.end(end, *k) == node)
+    }
+
+    fn listed(&self, near: End, far: End, at: usize, cursor: usize) -> Option<Step>
+        ensures { result ≡ tables.listed_at near far self.now at cursor }
+    {
+        let k = self.first_at(near, at, cursor)?;
+        Some(told(k, self.end(far, k)))
     }
 }
 
@@ -88,27 +125,19 @@ impl Network for Table {
     }
 
     fn arc_count(&self) -> usize {
-        self.used.min(16)
+        self.arcs.len().min(16)
     }
 
     fn arc(&self, k: usize) -> Option<Arc> {
-        if k < self.used.min(16) {
-            Some(Arc {
-                tail: tail(self, k),
-                head: head(self, k),
-                capacity: limit(entry(self, k).capacity),
-            })
+        if k < self.arc_count() {
+            Some(self.within(k))
         } else {
             None
         }
     }
 
     fn capacity(&self, k: usize) -> Option<Capacity> {
-        if k < self.used.min(16) {
-            Some(limit(entry(self, k).capacity))
-        } else {
-            None
-        }
+        Some(self.arc(k)?.capacity)
     }
 
     fn at(&self, v: usize) -> usize {
@@ -116,52 +145,10 @@ impl Network for Table {
     }
 
     fn leaving(&self, at: usize, cursor: usize) -> Option<Step> {
-        for k in cursor..self.used.min(16) {
-            if tail(self, k) == at {
-                return Some(told(k, head(self, k)));
-            }
-        }
-        None
+        self.listed(End::Tail, End::Head, at, cursor)
     }
 
     fn entering(&self, at: usize, cursor: usize) -> Option<Step> {
-        for k in cursor..self.used.min(16) {
-            if head(self, k) == at {
-                return Some(told(k, tail(self, k)));
-            }
-        }
-        None
+        self.listed(End::Head, End::Tail, at, cursor)
     }
-}
-
-/// A table without arcs.
-pub fn empty(nodes: usize) -> Table {
-    Table {
-        nodes,
-        used: 0,
-        arcs: [BLANK; 16],
-    }
-}
-
-/// A table with one arc more, if it has room for one.
-pub fn with(table: Table, tail: usize, head: usize, capacity: Capacity) -> Table {
-    let mut more = table;
-    if more.used < 16 {
-        more.arcs[more.used] = Arc {
-            tail,
-            head,
-            capacity,
-        };
-        more.used += 1;
-    }
-    more
-}
-
-/// A table of bounded arcs, from tails, heads and capacities.
-pub fn of_bounded(nodes: usize, arcs: &[(usize, usize, u32)]) -> Table {
-    let mut table = empty(nodes);
-    for (tail, head, most) in arcs.iter().copied() {
-        table = with(table, tail, head, Capacity::Bounded(most));
-    }
-    table
 }

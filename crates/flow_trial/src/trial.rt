@@ -1,6 +1,7 @@
 // One network, run through the engine and held to the least of all its cuts.
 use crate::brute::{cut_capacity, least_cut};
 use crate::table::Table;
+use flow::network::Network;
 use flow::turned::Turned;
 use max_flow::engine::max_flow;
 
@@ -15,48 +16,38 @@ pub enum Verdict {
     Differs,
 }
 
-/// The set of the marked nodes, as `cut_capacity` takes it.
+/// What the engine finds.
+#[derive(Clone, Copy)]
+struct Found {
+    value: u64,
+    /// The set of the marked nodes, as `cut_capacity` takes it.
+    marked: u32,
+}
+
 fn marked_set(nodes: &[u32; 32]) -> u32 {
-    let mut set = 0;
-    for v in 0..6u32 {
-        if nodes[v as usize + 2] == 1 {
-            set |= 1 << v;
-        }
-    }
-    set
+    (0..6u32)
+        .filter(|v| nodes[*v as usize + 2] == 1)
+        .fold(0, |set, v| set | (1 << v))
 }
 
-/// The value of a network by the engine, as long as its marks cut off that value; none if it is refused.
-fn engine_value(table: &Table) -> Option<u64> {
+/// Runs a network of at most 8 nodes and 16 arcs; none if it is refused.
+fn run<N: Network>(network: &N) -> Option<Found> {
     let mut flow = [0; 16];
     let mut nodes = [0; 32];
-    match max_flow(table, &mut flow, &mut nodes) {
-        Ok(value) => {
-            if cut_capacity(table, marked_set(&nodes)) == Some(value) {
-                Some(value)
-            } else {
-                Some(u64::MAX)
-            }
-        }
-        Err(_) => None,
-    }
-}
-
-/// The value of the turned network by the engine; none if it is refused.
-fn turned_value(table: &Table) -> Option<u64> {
-    let mut flow = [0; 16];
-    let mut nodes = [0; 32];
-    match max_flow(&Turned(table), &mut flow, &mut nodes) {
-        Ok(value) => Some(value),
-        Err(_) => None,
-    }
+    let value = max_flow(network, &mut flow, &mut nodes).ok()?;
+    Some(Found {
+        value,
+        marked: marked_set(&nodes),
+    })
 }
 
 /// Runs a network and its turned network.
 pub fn tried(table: &Table) -> Verdict {
-    match (least_cut(table), engine_value(table), turned_value(table)) {
-        (Some(least), Some(value), Some(turned)) if least == value && least == turned =>
-            Verdict::Agrees(value),
+    match (least_cut(table), run(table), run(&Turned(table))) {
+        (Some(least), Some(on), Some(turned))
+            if on.value == least
+                && turned.value == least
+                && cut_capacity(table, on.marked) == Some(least) => Verdict::Agrees(least),
         (None, None, None) => Verdict::Refused,
         _ => Verdict::Differs,
     }

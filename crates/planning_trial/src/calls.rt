@@ -38,40 +38,52 @@ pub struct Called {
     answer: Result<u64, Refusal>,
 }
 
-fn plan<P: Project>(
-    side: Side,
-    project: &P,
-    starts: &mut [u8],
-    flow: &mut [u64],
-    nodes: &mut [u32],
-) -> Result<u64, Refusal> {
-    match side {
-        Side::Early => cheapest(project, starts, flow, nodes),
-        Side::Late => latest(project, starts, flow, nodes),
-    }
-}
-
-fn lengths_needed<P: Project>(project: &P) -> Lengths {
-    let network = time_network(project);
-    Lengths {
-        bytes: project.count(),
-        words: network.used,
-        nodes: network.nodes.saturating_mul(4),
-    }
-}
-
 impl Called {
-    /// Fills memory and lends so much of it to a call.
-    pub fn with<P: Project>(side: Side, project: &P, lengths: Lengths) -> Called {
+    // Whether the call was refused in this way, with all memory as it was.
+    fn is_refused(&self, refusal: Refusal) -> bool {
+        self.answer == Err(refusal)
+            && untouched(&self.starts, 0)
+            && untouched(&self.flow, 0)
+            && untouched(&self.nodes, 0)
+    }
+}
+
+/// A side of a project, and the lists of least cost that it is held to; none if no list meets the project.
+#[derive_where(Clone, Copy)]
+pub struct Task<'a, P> {
+    pub side: Side,
+    pub project: &'a P,
+    pub least: Option<Least>,
+}
+
+impl<P: Project> Task<'_, P> {
+    // The library has a call for each side, and the list that is wanted goes by the side, too: a closure in its
+    // place would have to come with that list.
+    fn plan(&self, starts: &mut [u8], flow: &mut [u64], nodes: &mut [u32]) -> Result<u64, Refusal> {
+        match self.side {
+            Side::Early => cheapest(self.project, starts, flow, nodes),
+            Side::Late => latest(self.project, starts, flow, nodes),
+        }
+    }
+
+    fn lengths_needed(&self) -> Lengths {
+        let network = time_network(self.project);
+        Lengths {
+            bytes: self.project.count(),
+            words: network.arc_count(),
+            nodes: network.nodes.saturating_mul(4),
+        }
+    }
+
+    /// Fills memory and lends so much of it to the call.
+    pub fn call(&self, lengths: Lengths) -> Called {
         let mut starts = [FILLER; 6];
         let mut flow = [FILLER as u64; 80];
         let mut nodes = [FILLER as u32; 96];
-        let answer = plan(
-            side,
-            project,
-            &mut starts[0..(lengths.bytes as usize).min(6)],
-            &mut flow[0..(lengths.words as usize).min(80)],
-            &mut nodes[0..(lengths.nodes as usize).min(96)],
+        let answer = self.plan(
+            &mut starts[..(lengths.bytes as usize).min(6)],
+            &mut flow[..(lengths.words as usize).min(80)],
+            &mut nodes[..(lengths.nodes as usize).min(96)],
         );
         Called {
             starts,
@@ -81,66 +93,54 @@ impl Called {
         }
     }
 
-    /// Whether answer and memory are as promised for a project with these lists of least cost.
-    pub fn is_as_promised<P: Project>(
-        &self,
-        side: Side,
-        project: &P,
-        least: Option<Least>,
-    ) -> bool {
-        let taken = lengths_needed(project);
-        if !cleared(&self.nodes, taken.nodes as usize) {
+    /// Whether answer and memory are as promised.
+    pub fn is_as_promised(&self, called: &Called) -> bool {
+        let taken = self.lengths_needed();
+        if !cleared(&called.nodes, taken.nodes as usize) {
             return false;
         }
-        match (self.answer, least) {
+        match (called.answer, self.least) {
             (Ok(value), Some(least)) => {
-                is_above(value, least.cost, floors_of(project))
-                    && sum_of_floors(project) == floors_of(project)
-                    && written(&self.starts, &least.list(side), taken.bytes)
-                    && untouched(&self.flow, taken.words as usize)
+                let floors = floors_of(self.project);
+                is_above(value, least.cost, floors)
+                    && sum_of_floors(self.project) == floors
+                    && written(&called.starts, &least.list(self.side), taken.bytes)
+                    && untouched(&called.flow, taken.words as usize)
             }
             (Err(refusal), None) => {
                 refusal == Fault::Unbounded.at(0)
-                    && untouched(&self.starts, 0)
-                    && untouched(&self.flow, 0)
+                    && untouched(&called.starts, 0)
+                    && untouched(&called.flow, 0)
             }
             _ => false,
         }
     }
 
-    // Whether the call was refused in this way, with all memory as it was.
-    fn is_refused(&self, refusal: Refusal) -> bool {
-        match self.answer {
-            Err(given) => {
-                given == refusal
-                    && untouched(&self.starts, 0)
-                    && untouched(&self.flow, 0)
-                    && untouched(&self.nodes, 0)
-            }
-            Ok(_) => false,
-        }
+    /// Whether each memory that is one short is refused with the length needed, in order, and exactly enough
+    /// is enough.
+    pub fn memory_is_tested(&self) -> bool {
+        let enough = self.lengths_needed();
+        let all_short = Lengths {
+            bytes: enough.bytes.saturating_sub(1),
+            words: enough.words.saturating_sub(1),
+            nodes: enough.nodes.saturating_sub(1),
+        };
+        let words_short = Lengths {
+            bytes: enough.bytes,
+            ..all_short
+        };
+        let nodes_short = Lengths {
+            words: enough.words,
+            ..words_short
+        };
+        self.call(all_short)
+            .is_refused(Fault::StartBytes.at(enough.bytes))
+            && self
+                .call(words_short)
+                .is_refused(Fault::FlowWords.at(enough.words))
+            && self
+                .call(nodes_short)
+                .is_refused(Fault::NodeWords.at(enough.nodes))
+            && self.is_as_promised(&self.call(enough))
     }
-}
-
-/// Whether each memory that is one short is refused with the length needed, in order, and exactly enough
-/// is enough.
-pub fn memory_is_tested<P: Project>(side: Side, project: &P, least: Option<Least>) -> bool {
-    let enough = lengths_needed(project);
-    let all_short = Lengths {
-        bytes: enough.bytes.saturating_sub(1),
-        words: enough.words.saturating_sub(1),
-        nodes: enough.nodes.saturating_sub(1),
-    };
-    let words_short = Lengths {
-        bytes: enough.bytes,
-        ..all_short
-    };
-    let nodes_short = Lengths {
-        words: enough.words,
-        ..words_short
-    };
-    Called::with(side, project, all_short).is_refused(Fault::StartBytes.at(enough.bytes))
-        && Called::with(side, project, words_short).is_refused(Fault::FlowWords.at(enough.words))
-        && Called::with(side, project, nodes_short).is_refused(Fault::NodeWords.at(enough.nodes))
-        && Called::with(side, project, enough).is_as_promised(side, project, least)
 }

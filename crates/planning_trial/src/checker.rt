@@ -8,8 +8,8 @@ use trial_projects::lists::{Starts, first_broken, first_not_open};
 /// The first start bytes as a list; 0 where there is none.
 pub fn list_of(starts: &[u8]) -> Starts {
     let mut list = [0; 4];
-    for activity in 0..starts.len().min(4) {
-        list[activity] = starts[activity];
+    for (start, byte) in list.iter_mut().zip(starts) {
+        *start = *byte;
     }
     list
 }
@@ -20,8 +20,8 @@ pub fn defined_answer<P: Project>(project: &P, starts: &[u8], flow: &[u64]) -> R
     if starts.len() < project.count() as usize {
         return Err(Fault::StartBytes.at(project.count()));
     }
-    if flow.len() < network.used as usize {
-        return Err(Fault::FlowWords.at(network.used));
+    if flow.len() < network.arc_count() as usize {
+        return Err(Fault::FlowWords.at(network.arc_count()));
     }
     let list = list_of(starts);
     if let Some(activity) = first_not_open(project, &list) {

@@ -4,13 +4,14 @@ use crate::network::{Network, WORD_LIMIT};
 use model::project::Project;
 use trial_projects::drawn::Source;
 
-/// A plan as it is handed to the check: the first so many of these start bytes and flow words.
+/// A plan as it is handed to the check: the first so many of these start bytes and flow words. Fewer are
+/// handed over while the others stay, so that more can be again.
 #[derive(Clone, Copy)]
 pub struct Proposal {
-    pub starts: [u8; 6],
-    pub bytes: usize,
-    pub flow: [u64; 80],
-    pub words: usize,
+    starts: [u8; 6],
+    bytes: u16,
+    flow: [u64; 80],
+    words: u16,
 }
 
 /// One way to damage a proposed plan.
@@ -35,34 +36,42 @@ pub enum Damage {
 impl Proposal {
     /// All that a call has left in its memory, what is to spare as well.
     pub fn of(called: &Called) -> Proposal {
-        let starts = called.starts;
-        let flow = called.flow;
         Proposal {
-            starts,
+            starts: called.starts,
             bytes: 6,
-            flow,
+            flow: called.flow,
             words: 80,
         }
     }
 
+    /// The start bytes that are handed over.
+    pub fn starts(&self) -> &[u8] {
+        &self.starts[..self.bytes.min(6) as usize]
+    }
+
+    /// The flow words that are handed over.
+    pub fn flow(&self) -> &[u64] {
+        &self.flow[..self.words.min(80) as usize]
+    }
+
     fn word(&self, arc: u16) -> u64 {
-        if arc < 80 { self.flow[arc as usize] } else { 0 }
+        self.flow.get(arc as usize).copied().unwrap_or(0)
     }
 
     fn set_word(&mut self, arc: u16, word: u64) {
-        if arc < 80 {
-            self.flow[arc as usize] = word;
+        if let Some(held) = self.flow.get_mut(arc as usize) {
+            *held = word;
         }
     }
 
     /// Damages the plan.
     pub fn apply(&mut self, damage: Damage) {
         match damage {
-            Damage::Bytes(bytes) => self.bytes = bytes.min(6) as usize,
-            Damage::Words(words) => self.words = words.min(80) as usize,
+            Damage::Bytes(bytes) => self.bytes = bytes,
+            Damage::Words(words) => self.words = words,
             Damage::Start { activity, slot } => {
-                if activity < 6 {
-                    self.starts[activity as usize] = slot;
+                if let Some(start) = self.starts.get_mut(activity as usize) {
+                    *start = slot;
                 }
             }
             Damage::Word { arc, word } => self.set_word(arc, word),
@@ -120,11 +129,11 @@ pub fn drawn_damage<P: Project>(
 ) -> Damage {
     let count = project.count();
     let on_arcs = count.saturating_mul(project.horizon());
-    let arc = source.byte() as u16 % network.used.max(1);
+    let arc = source.byte() as u16 % network.arc_count().max(1);
     let on = source.byte() as u16 % on_arcs.max(1);
     match source.byte() % 12 {
         0 => Damage::Bytes(count.saturating_sub(arc % 3)),
-        1 => Damage::Words(network.used.saturating_sub(arc % 3)),
+        1 => Damage::Words(network.arc_count().saturating_sub(arc % 3)),
         2..=4 => Damage::Start {
             activity: source.byte() as u16 % count.max(1),
             slot: drawn_slot(source, project.horizon().min(128) as u8),

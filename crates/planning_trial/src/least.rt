@@ -1,6 +1,7 @@
 // The lists of least cost by trying every list, and sums of prices, without any cleverness.
 use least_cost::side::Side;
 use model::project::Project;
+use std::iter::successors;
 use trial_projects::lists::{Starts, meets, next, open_price, start_of};
 
 /// The lists of least cost of a project: the first and the last of them in the order of a dictionary.
@@ -21,54 +22,34 @@ impl Least {
     }
 }
 
-fn lower(least: Option<i64>, price: Option<i64>) -> Option<i64> {
-    match (least, price) {
-        (Some(least), Some(price)) => Some(least.min(price)),
-        (Some(least), None) => Some(least),
-        (None, price) => price,
-    }
-}
-
 /// The least open price of an activity, or 0 if it has none.
 pub fn floor_of<P: Project>(project: &P, activity: u16) -> i64 {
-    let mut least = None;
-    for slot in 0..project.horizon() {
-        least = lower(least, open_price(project, activity, slot));
-    }
-    least.unwrap_or(0)
+    (0..project.horizon())
+        .filter_map(|slot| open_price(project, activity, slot))
+        .min()
+        .unwrap_or(0)
 }
 
 /// The sum of the floors of a project.
 pub fn floors_of<P: Project>(project: &P) -> i64 {
-    let mut sum = 0i64;
-    for activity in 0..project.count() {
-        sum = sum.saturating_add(floor_of(project, activity));
-    }
-    sum
+    (0..project.count()).fold(0, |sum: i64, a| sum.saturating_add(floor_of(project, a)))
 }
 
 /// The sum of the prices of a list; a start that is not open adds nothing.
 pub fn cost_of<P: Project>(project: &P, starts: &Starts) -> i64 {
-    let mut sum = 0i64;
-    for activity in 0..project.count() {
-        let price = open_price(project, activity, start_of(starts, activity) as u16);
-        sum = sum.saturating_add(price.unwrap_or(0));
-    }
-    sum
+    (0..project.count())
+        .filter_map(|a| open_price(project, a, start_of(starts, a) as u16))
+        .fold(0, |sum: i64, price| sum.saturating_add(price))
 }
 
 // The lists of least cost, with one list more that comes after those so far.
 fn with(least: Option<Least>, list: Starts, cost: i64) -> Least {
     match least {
         Some(known) if known.cost < cost => known,
-        Some(known) if known.cost == cost => {
-            let first = known.first;
-            Least {
-                cost,
-                first,
-                last: list,
-            }
-        }
+        Some(known) if known.cost == cost => Least {
+            last: list,
+            ..known
+        },
         _ => Least {
             cost,
             first: list,
@@ -79,16 +60,10 @@ fn with(least: Option<Least>, list: Starts, cost: i64) -> Least {
 
 /// The lists of least cost of a project of at most four activities and six slots; none if no list meets it.
 pub fn lists_of_least_cost<P: Project>(project: &P) -> Option<Least> {
-    let mut least = None;
-    let mut starts = [0; 4];
-    for _ in 0..1296 {
-        if meets(project, &starts) {
-            least = Some(with(least, starts, cost_of(project, &starts)));
-        }
-        match next(project, starts) {
-            Some(list) => starts = list,
-            None => return least,
-        }
-    }
-    least
+    successors(Some([0; 4]), |list| next(project, *list))
+        .take(1296)
+        .filter(|list| meets(project, list))
+        .fold(None, |least, list| {
+            Some(with(least, list, cost_of(project, &list)))
+        })
 }

@@ -10,26 +10,26 @@ mod network;
 mod trials;
 
 use std::io;
+use trial_projects::drawn::Spread;
 use trial_projects::stacks::try_projects;
-use trials::Tally;
+use trials::{Seen, Tally};
 
 fn main(rt: HostRuntime) -> io::Result<()> {
     let mut tally = Tally::fresh();
-    try_projects(&mut tally);
+    try_projects::<Tally, 128>(&mut tally, Spread::Large);
     let Tally {
         plans,
         refused,
-        answers,
+        passed,
+        rejected,
         differ,
         ..
     } = tally;
     println!(rt; "cheapest and latest lists compared: {plans}")?;
     println!(rt; "refused, as no list meets: {refused}")?;
-    let passed = answers[0];
     println!(rt; "damaged plans that the check passes: {passed}")?;
-    for number in [13, 14, 20, 21, 22, 23, 24] {
-        let seen = answers[number];
-        println!(rt; "damaged plans refused {number}: {seen}")?;
+    for Seen { fault, times } in rejected {
+        println!(rt; "damaged plans refused {}: {times}", fault.number())?;
     }
     println!(rt; "differences: {differ}")
 }

@@ -1,5 +1,5 @@
 // The trials of a project, and how often each thing was seen in them.
-use crate::calls::{Called, SPACIOUS, memory_is_tested};
+use crate::calls::{SPACIOUS, Task};
 use crate::checker::{defined_answer, list_of};
 use crate::damage::{Proposal, drawn_damage};
 use crate::least::{Least, cost_of, lists_of_least_cost};
@@ -7,11 +7,29 @@ use crate::network::time_network;
 use certificate::check::check;
 use least_cost::side::Side;
 use model::project::Project;
-use model::refusal::Refusal;
+use model::refusal::{Fault, Refusal};
 use trial_projects::drawn::Source;
 use trial_projects::stacks::Trial;
 
 const DAMAGES: u8 = 100;
+
+// What the check may refuse of these plans.
+const FAULTS: [Fault; 7] = [
+    Fault::StartBytes,
+    Fault::FlowWords,
+    Fault::StartClosed,
+    Fault::LagBroken,
+    Fault::WordAbove,
+    Fault::Unbalanced,
+    Fault::ValueDiffers,
+];
+
+/// How often a fault was answered.
+#[derive(Clone, Copy)]
+pub struct Seen {
+    pub fault: Fault,
+    pub times: u32,
+}
 
 /// How often each thing was seen.
 #[derive(Clone, Copy)]
@@ -20,19 +38,14 @@ pub struct Tally {
     pub plans: u32,
     /// Calls refused as no list meets.
     pub refused: u32,
-    /// What the check answered to damaged plans, by the number of the fault; at 0, that they pass.
-    pub answers: [u32; 25],
+    /// Damaged plans that the check passes.
+    pub passed: u32,
+    /// Those that it refuses.
+    pub rejected: [Seen; 7],
     /// What is not as it should be.
     pub differ: u32,
     /// Draws the damages.
     source: Source,
-}
-
-fn number_of(answer: Result<(), Refusal>) -> u16 {
-    match answer {
-        Err(refusal) => refusal.fault.number(),
-        Ok(()) => 0,
-    }
 }
 
 impl Tally {
@@ -40,7 +53,8 @@ impl Tally {
         Tally {
             plans: 0,
             refused: 0,
-            answers: [0; 25],
+            passed: 0,
+            rejected: FAULTS.map(|fault| Seen { fault, times: 0 }),
             differ: 0,
             source: Source(1736),
         }
@@ -52,10 +66,16 @@ impl Tally {
         }
     }
 
-    fn note_answer(&mut self, number: u16) {
-        if number < 25 {
-            let seen = self.answers[number as usize];
-            self.answers[number as usize] = seen.saturating_add(1);
+    fn note_answer(&mut self, answer: Result<(), Refusal>) {
+        match answer {
+            Ok(()) => self.passed = self.passed.saturating_add(1),
+            Err(refusal) => {
+                for seen in self.rejected.iter_mut() {
+                    if seen.fault == refusal.fault {
+                        seen.times = seen.times.saturating_add(1);
+                    }
+                }
+            }
         }
     }
 
@@ -66,8 +86,8 @@ impl Tally {
         least: &Least,
         proposal: &Proposal,
     ) -> Result<(), Refusal> {
-        let starts = &proposal.starts[0..proposal.bytes.min(6)];
-        let flow = &proposal.flow[0..proposal.words.min(80)];
+        let starts = proposal.starts();
+        let flow = proposal.flow();
         let answer = check(project, starts, flow);
         self.expect(answer == defined_answer(project, starts, flow));
         self.expect(answer.is_err() || cost_of(project, &list_of(starts)) == least.cost);
@@ -84,22 +104,22 @@ impl Tally {
                 damaged.apply(drawn_damage(&mut self.source, project, &network, &damaged));
             }
             let answer = self.try_check(project, least, &damaged);
-            self.note_answer(number_of(answer));
+            self.note_answer(answer);
         }
     }
 
-    fn try_side<P: Project>(&mut self, side: Side, project: &P, least: Option<Least>) {
-        let called = Called::with(side, project, SPACIOUS);
-        self.expect(called.is_as_promised(side, project, least));
-        self.expect(memory_is_tested(side, project, least));
-        match least {
+    fn try_task<P: Project>(&mut self, task: &Task<'_, P>) {
+        let called = task.call(SPACIOUS);
+        self.expect(task.is_as_promised(&called));
+        self.expect(task.memory_is_tested());
+        match task.least {
             None => self.refused = self.refused.saturating_add(1),
             Some(least) => {
                 let found = Proposal::of(&called);
-                let answer = self.try_check(project, &least, &found);
+                let answer = self.try_check(task.project, &least, &found);
                 self.expect(answer.is_ok());
                 self.plans = self.plans.saturating_add(1);
-                self.try_damages(project, &least, &found);
+                self.try_damages(task.project, &least, &found);
             }
         }
     }
@@ -108,7 +128,12 @@ impl Tally {
 impl Trial for Tally {
     fn on<P: Project>(&mut self, project: &P) {
         let least = lists_of_least_cost(project);
-        self.try_side(Side::Early, project, least);
-        self.try_side(Side::Late, project, least);
+        for side in [Side::Early, Side::Late] {
+            self.try_task(&Task {
+                side,
+                project,
+                least,
+            });
+        }
     }
 }

@@ -6,13 +6,13 @@ mod report;
 mod starts;
 mod wording;
 
-use input::{Input, read_file};
+use input::read_file;
 use std::io;
 
 fn main(rt: HostRuntime) -> io::Result<()> {
     let mut buffer = vec![in rt.alloc(); 0u8; 65_536]?;
     match read_file(&mut rt.stdin(), buffer.as_mut_slice())? {
-        Input::TooLong => println!(rt; "The file is longer than 65535 bytes; no table file is."),
-        Input::Whole(length) => report::print_file(&rt, &buffer.as_slice()[0..length]),
+        None => println!(rt; "The file is longer than 65535 bytes; no table file is."),
+        Some(file) => report::print_file(&rt, file),
     }
 }

@@ -9,11 +9,7 @@ pub type Starts = [u8; 4];
 
 /// The start of an activity in a list; 0 past the fourth.
 pub fn start_of(starts: &Starts, activity: u16) -> u8 {
-    if activity < 4 {
-        starts[activity as usize]
-    } else {
-        0
-    }
+    starts.get(activity as usize).copied().unwrap_or(0)
 }
 
 /// What it costs to start an activity in a slot; none if the slot is closed or there is none.
@@ -31,24 +27,14 @@ fn holds(lag: Lag, starts: &Starts) -> bool {
 
 /// The least activity of a project that a list does not start in an open slot.
 pub fn first_not_open<P: Project>(project: &P, starts: &Starts) -> Option<u16> {
-    for activity in 0..project.count() {
-        if open_price(project, activity, start_of(starts, activity) as u16).is_none() {
-            return Some(activity);
-        }
-    }
-    None
+    (0..project.count()).find(|a| open_price(project, *a, start_of(starts, *a) as u16).is_none())
 }
 
 /// The least lag of a project that a list breaks.
 pub fn first_broken<P: Project>(project: &P, starts: &Starts) -> Option<u16> {
-    for number in 0..project.lag_count() {
-        if let Some(lag) = project.lag(number) {
-            if !holds(lag, starts) {
-                return Some(number);
-            }
-        }
-    }
-    None
+    (0..project.lag_count()).find(|number| project
+        .lag(*number)
+        .is_some_and(|lag| !holds(lag, starts)))
 }
 
 /// Whether a list meets a project of at most four activities.
@@ -59,12 +45,12 @@ pub fn meets<P: Project>(project: &P, starts: &Starts) -> bool {
 /// The next list in the order of a dictionary, or none after the last.
 pub fn next<P: Project>(project: &P, starts: Starts) -> Option<Starts> {
     let mut list = starts;
-    for place in (0..project.count().min(4)).rev() {
-        if (list[place as usize] as u16) + 1 < project.horizon().min(128) {
-            list[place as usize] += 1;
+    for start in list.iter_mut().take(project.count() as usize).rev() {
+        if (*start as u16) + 1 < project.horizon().min(128) {
+            *start += 1;
             return Some(list);
         }
-        list[place as usize] = 0;
+        *start = 0;
     }
     None
 }

@@ -1,5 +1,5 @@
 // The projects that every trial runs on: drawn ones, each bare and under three stacks of layers.
-use crate::drawn::{Drawn, Source};
+use crate::drawn::{Source, Spread};
 use layers::calendar::Calendar;
 use layers::lateness::Lateness;
 use layers::layered::Layered;
@@ -30,7 +30,7 @@ fn drawn_lateness(source: &mut Source) -> Lateness {
 }
 
 // Bare, under a calendar, under lateness on that, and under another calendar on both.
-fn try_stack<T: Trial>(trial: &mut T, source: &mut Source, project: Drawn) {
+fn try_stack<T: Trial, P: Project + Drop>(trial: &mut T, source: &mut Source, project: P) {
     trial.on(&project);
     let first = Layered {
         below: project,
@@ -50,10 +50,10 @@ fn try_stack<T: Trial>(trial: &mut T, source: &mut Source, project: Drawn) {
 }
 
 /// Tries 800 projects, the same in every run.
-pub fn try_projects<T: Trial>(trial: &mut T) {
+pub fn try_projects<T: Trial, const BASE: u8>(trial: &mut T, spread: Spread) {
     let mut source = Source(2003);
     for _ in 0..200 {
-        let project = source.draw();
+        let project = source.draw::<BASE>(spread);
         try_stack(trial, &mut source, project);
     }
 }
