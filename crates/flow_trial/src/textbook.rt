@@ -2,119 +2,115 @@
 // unbounded arcs, loops, a matching.
 use crate::table::Table;
 use flow::network::Capacity;
+use flow::network::Capacity::{Bounded, Unbounded};
 use std::alloc::{AllocError, Global};
 
 /// A textbook's network.
 pub struct Example {
     nodes: usize,
     /// Tail, head and capacity of each.
-    bounded: &'static [(usize, usize, u32)],
-    unbounded: &'static [(usize, usize)],
+    arcs: &'static [(usize, usize, Capacity)],
 }
 
 pub static EXAMPLES: [Example; 12] = [
     Example {
         nodes: 6,
-        bounded: &[
-            (0, 2, 16),
-            (0, 3, 13),
-            (2, 4, 12),
-            (3, 2, 4),
-            (3, 5, 14),
-            (4, 3, 9),
-            (4, 1, 20),
-            (5, 4, 7),
-            (5, 1, 4),
+        arcs: &[
+            (0, 2, Bounded(16)),
+            (0, 3, Bounded(13)),
+            (2, 4, Bounded(12)),
+            (3, 2, Bounded(4)),
+            (3, 5, Bounded(14)),
+            (4, 3, Bounded(9)),
+            (4, 1, Bounded(20)),
+            (5, 4, Bounded(7)),
+            (5, 1, Bounded(4)),
         ],
-        unbounded: &[],
     },
     Example {
         nodes: 2,
-        bounded: &[(0, 1, 5)],
-        unbounded: &[],
+        arcs: &[(0, 1, Bounded(5))],
     },
     Example {
         nodes: 2,
-        bounded: &[(0, 1, 3), (0, 1, 4), (1, 0, 9)],
-        unbounded: &[],
+        arcs: &[(0, 1, Bounded(3)), (0, 1, Bounded(4)), (1, 0, Bounded(9))],
     },
     Example {
         nodes: 4,
-        bounded: &[(0, 2, 1), (0, 3, 1), (2, 3, 1), (2, 1, 1), (3, 1, 1)],
-        unbounded: &[],
+        arcs: &[
+            (0, 2, Bounded(1)),
+            (0, 3, Bounded(1)),
+            (2, 3, Bounded(1)),
+            (2, 1, Bounded(1)),
+            (3, 1, Bounded(1)),
+        ],
     },
     Example {
         nodes: 4,
-        bounded: &[
-            (0, 2, 1000),
-            (0, 3, 1000),
-            (2, 3, 1),
-            (2, 1, 1000),
-            (3, 1, 1000),
+        arcs: &[
+            (0, 2, Bounded(1000)),
+            (0, 3, Bounded(1000)),
+            (2, 3, Bounded(1)),
+            (2, 1, Bounded(1000)),
+            (3, 1, Bounded(1000)),
         ],
-        unbounded: &[],
     },
     Example {
         nodes: 3,
-        bounded: &[],
-        unbounded: &[(0, 2), (2, 1)],
+        arcs: &[(0, 2, Unbounded), (2, 1, Unbounded)],
     },
     Example {
         nodes: 3,
-        bounded: &[(2, 1, 7)],
-        unbounded: &[(0, 2)],
+        arcs: &[(2, 1, Bounded(7)), (0, 2, Unbounded)],
     },
     Example {
         nodes: 3,
-        bounded: &[(2, 2, 5), (2, 0, 3), (0, 2, 4), (2, 1, 9)],
-        unbounded: &[],
+        arcs: &[
+            (2, 2, Bounded(5)),
+            (2, 0, Bounded(3)),
+            (0, 2, Bounded(4)),
+            (2, 1, Bounded(9)),
+        ],
     },
     Example {
         nodes: 2,
-        bounded: &[
-            (0, 1, 2_000_000_000),
-            (0, 1, 2_000_000_000),
-            (0, 1, 2_000_000_000),
+        arcs: &[
+            (0, 1, Bounded(2_000_000_000)),
+            (0, 1, Bounded(2_000_000_000)),
+            (0, 1, Bounded(2_000_000_000)),
         ],
-        unbounded: &[],
     },
     Example {
         nodes: 8,
-        bounded: &[
-            (0, 2, 1),
-            (0, 3, 1),
-            (0, 4, 1),
-            (2, 5, 1),
-            (2, 6, 1),
-            (3, 5, 1),
-            (4, 6, 1),
-            (4, 7, 1),
-            (5, 1, 1),
-            (6, 1, 1),
-            (7, 1, 1),
+        arcs: &[
+            (0, 2, Bounded(1)),
+            (0, 3, Bounded(1)),
+            (0, 4, Bounded(1)),
+            (2, 5, Bounded(1)),
+            (2, 6, Bounded(1)),
+            (3, 5, Bounded(1)),
+            (4, 6, Bounded(1)),
+            (4, 7, Bounded(1)),
+            (5, 1, Bounded(1)),
+            (6, 1, Bounded(1)),
+            (7, 1, Bounded(1)),
         ],
-        unbounded: &[],
     },
     Example {
         nodes: 4,
-        bounded: &[(0, 2, 5), (3, 1, 5)],
-        unbounded: &[],
+        arcs: &[(0, 2, Bounded(5)), (3, 1, Bounded(5))],
     },
     Example {
         nodes: 2,
-        bounded: &[],
-        unbounded: &[],
+        arcs: &[],
     },
 ];
 
 impl Example {
     pub fn table(&self, alloc: Global) -> Result<Table, AllocError> {
         let mut table = Table::new(alloc, self.nodes);
-        for (tail, head, most) in self.bounded.iter().copied() {
-            table.add(tail, head, Capacity::Bounded(most))?;
-        }
-        for (tail, head) in self.unbounded.iter().copied() {
-            table.add(tail, head, Capacity::Unbounded)?;
+        for (tail, head, capacity) in self.arcs.iter().copied() {
+            table.add(tail, head, capacity)?;
         }
         Ok(table)
     }

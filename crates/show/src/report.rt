@@ -6,6 +6,7 @@ use model::project::Project;
 use model::time::Slot;
 use std::io;
 use table_file::held::Table;
+use table_file::open::inspect;
 use table_file::shape::Shape;
 
 /// A project, and where the report of it goes.
@@ -17,22 +18,22 @@ pub struct Report<'a, P> {
 
 /// Prints the report of a file, or the line that tells why it is refused.
 pub fn print_file(rt: &HostRuntime, file: &[u8]) -> io::Result<()> {
-    match Table::open(file) {
+    match inspect(file) {
         Err(refusal) => println!(rt; "{}", InWords(refusal)),
-        Ok(table) => {
-            let project = &table;
-            Report { rt, project }.print()
+        Ok(shape) => {
+            let project = &Table::of_inspected(file);
+            Report { rt, project }.print(shape)
         }
     }
 }
 
 impl Report<'_, Table<'_>> {
-    fn print(&self) -> io::Result<()> {
+    fn print(&self, shape: Shape) -> io::Result<()> {
         let Shape {
             horizon,
             activities,
             relations,
-        } = self.project.shape();
+        } = shape;
         println!(self.rt; "{activities} activities, {horizon} days, {relations} relations")?;
         println!(self.rt;
             "durations at byte {}, prices at byte {}, relations at byte {}",
