@@ -6,7 +6,6 @@ use model::project::Project;
 use model::time::Slot;
 use std::io;
 use table_file::held::Table;
-use table_file::open::inspect;
 use table_file::shape::Shape;
 
 /// A project, and where the report of it goes.
@@ -18,22 +17,22 @@ pub struct Report<'a, P> {
 
 /// Prints the report of a file, or the line that tells why it is refused.
 pub fn print_file(rt: &HostRuntime, file: &[u8]) -> io::Result<()> {
-    match inspect(file) {
+    match Table::open(file) {
         Err(refusal) => println!(rt; "{}", InWords(refusal)),
-        Ok(shape) => {
-            let project = &Table::of_inspected(file);
-            Report { rt, project }.print(shape)
+        Ok(table) => {
+            let project = &table;
+            Report { rt, project }.print()
         }
     }
 }
 
 impl Report<'_, Table<'_>> {
-    fn print(&self, shape: Shape) -> io::Result<()> {
+    fn print(&self) -> io::Result<()> {
         let Shape {
             horizon,
             activities,
             relations,
-        } = shape;
+        } = self.project.shape();
         println!(self.rt; "{activities} activities, {horizon} days, {relations} relations")?;
         println!(self.rt;
             "durations at byte {}, prices at byte {}, relations at byte {}",
