@@ -1,10 +1,8 @@
 -- A start list that meets a project costs at most 128,000,000,000 above its floors: 64 prices, each at
 -- most 2,000,000,000 above its floor.
-use Rattle.std.proofs.Common.{◌≡◌, ℕ, zero, suc, ◌+◌, ◌-◌, ◌*◌, ◌<◌, ◌≤◌, List, length, ℤ, pos, negsuc, ◌+ℤ◌, ◌≤ℤ◌, Ok, Err, Result, subst, ⊎_elim, mul-le-mul, arith, w64, to_z, of_z}
+use Rattle.std.proofs.Common.{◌≡◌, ℕ, zero, suc, ◌+◌, ◌-◌, ◌*◌, ◌<◌, ◌≤◌, List, length, ℤ, pos, ◌+ℤ◌, Ok, Err, Result, subst, ⊎_elim, mul-le-mul, arith}
 use Rattle.std.proofs.lemmas.Bool.{cases_lt}
-use Rattle.std.proofs.lemmas.Int.{ints, to_z-of_z, to_z_pos}
-use lib.Signed.{mag}
-use mir.Val.{SFits}
+use Rattle.std.proofs.lemmas.Int.{ints}
 use Rattle.model.specs.declared.refusal.Refusal.{Refusal}
 use Rattle.model.specs.Meaning.{Meaning, Bounds}
 use Rattle.model.specs.Starts.{start, floor, floors, cost}
@@ -62,20 +60,6 @@ answered_limit m b starts starts' flow flow' nodes nodes' w x =
     (cases_lt (length nodes) (words_needed m)))
     (cases_lt (length flow) (time_net m).arcs))
     (cases_lt (length starts) m.n)
-
-mag_low : (x : ℤ) (k : ℕ) → negsuc k ≤ℤ x → x ≤ℤ pos k → mag x ≤ k
-mag_low (pos n) k l h = omega (arith, ints)
-mag_low (negsuc n) k l h = omega (arith, ints)
-
--- the floors and the value together
-pub cost_fits : (z : ℤ) (w : ℕ) → negsuc 137438953471 ≤ℤ z → z ≤ℤ pos 137438953472 → w ≤ 128000000000
-    → SFits w64 (to_z w64 (of_z w64 z) +ℤ to_z w64 w)
-cost_fits z w low high small =
-    let floors = mag_low z 137438953472 (omega (arith, ints)) (omega (arith, ints)) in
-    let both = mag_low (z +ℤ pos w) 274877906944 (omega (arith, ints)) (omega (arith, ints)) in
-    let same = to_z-of_z w64 z (record { sfits = omega arith }) in
-    let wide = to_z_pos w64 w (omega arith) in
-    rw (same, wide) (record { sfits = omega arith })
 
 full_size : (m : Meaning) → Bounds m → (starts flow nodes : List ℕ) → FullSize starts flow nodes → Enough m starts flow nodes
 full_size m b starts flow nodes x =

@@ -19,6 +19,7 @@ pub struct Rows<'a, P: Project> {
     ghost carried: { Carried (P.meaning project.now) flow.now },
 }
 
+// Rows and slots come from ranges: a struct around one would be made in each closure to be taken apart below.
 impl<P: Project> Rows<'_, P> {
     /// The word of a slot in a row.
     pub fn row_word(&self, row: u16, slot: u16) -> u64

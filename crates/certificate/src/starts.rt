@@ -9,6 +9,7 @@ use model::refusal::{Fault, Refusal};
 use model::time::Slot;
 
 /// A lag that the project has.
+// Numbers of lags come from ranges: a struct around one would be made in each closure to be taken apart below.
 pub fn lag_at<P: Project>(project: &P, number: u16) -> Lag
     requires { number < (P.meaning project.now).lags }
     ensures { result ≡ (P.meaning project.now).lag number }

@@ -18,6 +18,7 @@ pub(crate) struct Marks<'a, P: Project> {
     ghost enough: { (time_net (P.meaning project.now)).nodes ≤ length nodes.now },
 }
 
+// Activities come from a range: a struct around one would be made at each start to be taken apart below.
 impl<P: Project> Marks<'_, P> {
     fn is_marked(&self, node: usize) -> bool
         requires { node < (time_net (P.meaning self.now.project.now)).nodes }

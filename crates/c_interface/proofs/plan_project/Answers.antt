@@ -1,6 +1,7 @@
 use Rattle.std.proofs.Common.{Ok, ap, arith}
+use Rattle.std.proofs.lemmas.Grind.{common_steps}
 use Rattle.std.proofs.lemmas.Int.{ints}
-use Rattle.c_interface.proofs.Limits.{answered_limit, cost_fits}
+use Rattle.c_interface.proofs.Limits.{answered_limit}
 use Rattle.c_interface.proofs.plan_project.Goals as goal
 
 pub overflow_cast-result : goal.overflow_cast-result
@@ -13,7 +14,7 @@ pub overflow_add-result : goal.overflow_add-result
 overflow_add-result g c =
     let x = c.args.project.now in
     let small = answered_limit (g.P.Project.meaning x) (g.met.P.Project.bounded x) _ _ _ _ _ _ c.in_ok-value.value c.in_ok-value.ensures in
-    cost_fits _ _ c.sum_of_floors-floors.ensures.low c.sum_of_floors-floors.ensures.high (omega arith)
+    grind (arith, common_steps, small, c.sum_of_floors-floors.ensures.low, c.sum_of_floors-floors.ensures.high)
 
 pub returns : goal.returns
 returns g c =
