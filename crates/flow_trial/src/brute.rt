@@ -3,6 +3,7 @@ use crate::table::Table;
 use flow::network::Capacity;
 
 /// Whether a node lies on the side of the source: bit v − 2 of the set says it of node v.
+// A number for a set, so that counting goes through all sets.
 fn on_source_side(set: u32, node: usize) -> bool {
     match node {
         0 => true,

@@ -1,4 +1,5 @@
-// The lists of least cost by trying every list, and sums of prices, without any cleverness.
+// The lists of least cost by trying every list, and sums of prices, without any cleverness. The floors are worked out
+// here again, apart from the library's: what the library is held to may not stand on it.
 use least_cost::side::Side;
 use model::project::Project;
 use std::iter::successors;

@@ -49,6 +49,7 @@ pub struct Tally {
 }
 
 impl Tally {
+    // No `Default`: the damages are drawn from a seed.
     pub fn fresh() -> Tally {
         Tally {
             plans: 0,

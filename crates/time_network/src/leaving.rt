@@ -105,6 +105,7 @@ impl TimeNetwork {
     }
 
     /// From a point: back, on, and along each lag that leads from its activity.
+    // Apart from `entering_point`: of a lag the two have nothing in common but the cursor.
     pub(crate) fn leaving_point(&self, at: Point, cursor: usize) -> Option<Step>
         ensures { result
             ≡ lists.leaving_point (meant self.now) at.activity at.before cursor }
