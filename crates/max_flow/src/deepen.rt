@@ -18,6 +18,7 @@ pub struct Hit {
     pub next: usize,
 }
 
+// The node of a search in depth is another after each step, so the way from it is a clause and no ghost field.
 impl<N: Network> Nodes<'_, N> {
     /// The first arc from a cursor on over which a node is come to one way, from a node of smaller rank.
     fn hit(&self, flow: &[u64], node: usize, way: Way, cursor: usize) -> Option<Hit>
@@ -87,6 +88,7 @@ impl<N: Network> Nodes<'_, N> {
         ensures kept { Kept self.old self.new }
         ensures stepped { Stepped flow.now self.new result }
     {
+        // Two numbers in one word: four words a node is all that is lent.
         if self.place[node] % 2 == 0 {
             if let Some(from) = self.descend(flow, node, Way::Along) {
                 return Some(from);

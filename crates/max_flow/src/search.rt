@@ -11,6 +11,8 @@ use flow::network::Network;
 use flow::questions::{has_room, look, word_at};
 use flow::visit::{Visit, Way};
 
+// The queue is lent words with its length beside them, since nothing is allocated. That a search is under way is a
+// clause of the four that go on with it: a type with that fact would owe it at each find once more, beside the growth.
 impl<N: Network> Nodes<'_, N> {
     /// Writes down that a node was found over an arc; how many nodes wait then.
     fn find(&mut self, waiting: usize, v: usize, k: usize) -> usize
