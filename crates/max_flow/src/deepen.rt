@@ -21,6 +21,7 @@ pub struct Hit {
 // The node of a search in depth is another after each step, so the way from it is a clause and no ghost field.
 impl<N: Network> Nodes<'_, N> {
     /// The first arc from a cursor on over which a node is come to one way, from a node of smaller rank.
+    #[inline(always)]
     fn hit(&self, flow: &[u64], node: usize, way: Way, cursor: usize) -> Option<Hit>
         requires inside { node < (net_of self.now).nodes }
         requires low { cursor < 2147483648 }
@@ -29,7 +30,7 @@ impl<N: Network> Nodes<'_, N> {
         let visit = Visit::new(self.network, node);
         let rank = self.rank[node];
         let mut cursor = cursor;
-        for step in visit.steps(way.turned(), cursor..usize::MAX) {
+        for step in visit.steps(way.turned(), cursor, None) {
             let from = self.rank[step.node];
             if from > 0 && from < rank && visit.passes(way, flow, step.arc) {
                 return Some(Hit {
@@ -45,6 +46,7 @@ impl<N: Network> Nodes<'_, N> {
     }
 
     /// Tries to go down from a node, over an arc that is passed one way.
+    #[inline(always)]
     fn descend(&mut self, flow: &[u64], node: usize, way: Way) -> Option<usize>
         requires inside { node < (net_of self.old).nodes }
         requires way { WayIn flow.now self.old 0 node }

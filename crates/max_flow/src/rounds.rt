@@ -22,7 +22,7 @@ impl<N: Network> Nodes<'_, N> {
         requires { node < (net_of self.now).nodes }
     {
         let visit = Visit::new(self.network, node);
-        for step in visit.steps(Way::Along, 0..usize::MAX) {
+        for step in visit.steps(Way::Along, 0, None) {
             if self.rank[step.node] == 0 {
                 return true;
             }
@@ -65,7 +65,7 @@ impl<N: Network> Nodes<'_, N> {
     {
         let end = self.cursor_end(visit.node, way);
         let mut waiting = waiting;
-        for step in visit.steps(way, 0..end) {
+        for step in visit.steps(way, 0, end) {
             if self.rank[step.node] == 0 && visit.passes(way, flow, step.arc) {
                 waiting = self.rank_node(waiting, step.node);
             }

@@ -42,7 +42,7 @@ impl<N: Network> Nodes<'_, N> {
     {
         let end = self.cursor_end(visit.node, way);
         let mut waiting = waiting;
-        for step in visit.steps(way, 0..end) {
+        for step in visit.steps(way, 0, end) {
             if self.rank[step.node] == 0 && visit.passes(way, flow, step.arc) {
                 waiting = self.find(waiting, step.node, step.arc);
             }
@@ -50,13 +50,13 @@ impl<N: Network> Nodes<'_, N> {
         waiting
     }
 
-    /// The cursor from which on no arc leads on from a node, one way.
-    pub fn cursor_end(&self, node: usize, way: Way) -> usize
+    /// The cursor from which on no arc leads on from a node, one way, if it is known.
+    pub fn cursor_end(&self, node: usize, way: Way) -> Option<usize>
         requires { node < (net_of self.now).nodes }
     {
         match way {
-            Way::Along => usize::MAX,
-            Way::Back => self.far[node] as usize,
+            Way::Along => None,
+            Way::Back => Some(self.far[node] as usize),
         }
     }
 
