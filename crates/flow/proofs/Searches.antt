@@ -2,12 +2,12 @@
 use Rattle.std.proofs.Common.{◌≡◌, ℕ, zero, suc, ◌+◌, ◌*◌, ◌<◌, ◌≤◌, Bool, true, false, not, ◌&&◌, eqb, ltb, ◌⊎◌, sym, refl, ap, ◌∙◌, subst, inl, inr, ⊎_elim, arith}
 use Rattle.std.proofs.lemmas.Bool.{eq-eqb, ne_eqb, cases_eq, ltb-true, lt-ltb, le-ltb, or_left, or_cases}
 use Rattle.flow.specs.Sums.{sum_to, pick}
-use Rattle.flow.specs.Nets.{Net, Sound, Bounds, room, IsFlow, NoneAbove, Reached, source, along, back, Unhindered}
+use Rattle.flow.specs.Nets.{Net, Sound, Bounds, room, IsFlow, Reached, source, along, back, Unhindered}
 use Rattle.flow.specs.Cuts.{Finite, Marks, Closed}
 use Rattle.flow.specs.Ways.{Put, Leads}
 use Rattle.flow.specs.Searches.{unranked, Finds, Found, Searching, Opens, Searched}
 use Rattle.flow.specs.Unhindering.{unbounded_only}
-use Rattle.flow.proofs.Sums.{sum_to_but, sum_to_same, sum_to_le, sum_to_zero}
+use Rattle.flow.proofs.Sums.{sum_to_but, sum_to_le}
 use Rattle.flow.proofs.Duals.{no_flow_exceeds_a_cut, reached_in}
 
 ones : (m : ℕ) → sum_to (λ v. 1) m ≡ m
@@ -244,21 +244,3 @@ value_limit n b (S, c) f w i =
     at : (t : Bool) (k : ℕ) → k < n.arcs → pick t (n.capacity k) ≤ 2000000000
     at true k l = b.capacity_limit k l
     at false k l = omega arith
-
--- no flow at all is a flow of value 0
-pub no_flow : (n : Net) (f : ℕ → ℕ) → ((k : ℕ) → f k ≡ 0) → IsFlow n f 0 × NoneAbove n f 0
-no_flow n f z = (
-  record {
-    below = λ k l e. omega (arith, z k);
-    balanced = λ v a l. none n.tail v ∙ sym (none n.head v);
-    worth = omega (arith, none n.tail 0, none n.head 0);
-  },
-  λ k l. omega (arith, z k),
-)
-  where
-    nil : (t : Bool) (k : ℕ) → pick t (f k) ≡ 0
-    nil true k = z k
-    nil false k = refl
-
-    none : (e : ℕ → ℕ) (v : ℕ) → sum_to (λ k. pick (eqb (e k) v) (f k)) n.arcs ≡ 0
-    none e v = sum_to_same _ (λ k. 0) n.arcs (λ k l. nil (eqb (e k) v) k) ∙ sum_to_zero n.arcs

@@ -9,7 +9,7 @@ use Rattle.flow.specs.Answers.{Seen, capacity_at, has_room, room_left}
 use Rattle.flow.specs.Pushes.{Midway, Raised}
 use Rattle.flow.specs.Ways.{Put, Over, Against, Leads, Way, arrived, over, against}
 use Rattle.flow.specs.Searches.{Finds, Found}
-use Rattle.flow.proofs.Pushes.{push_begins, push_along, push_against, push_ends}
+use Rattle.flow.proofs.Pushes.{push_along, push_against, push_ends}
 
 pub has_room_is : (n : Net) (f : ℕ → ℕ) (k : ℕ) → has_room (capacity_at n k) (f k) ≡ room n f k
 has_room_is n f k = go (n.unbounded k)
@@ -93,17 +93,6 @@ pub record Narrow (n : Net) (f rank link : ℕ → ℕ) (node least : ℕ) : Typ
   pub most : least ≤ 2000000000
   pub carries : (d : ℕ) → d ≤ least → Way n f rank link d node → Way n f rank link d 0
 
-pub narrow_begins : (n : Net) → Bounds n → (f rank link : ℕ → ℕ) → Way n f rank link 0 0
-    → Narrow n f rank link 0 2000000000
-narrow_begins n b f rank link w =
-    record {
-      inside = omega (arith, b.sound.two);
-      way = w;
-      some = omega arith;
-      most = omega arith;
-      carries = λ d l r. r;
-    }
-
 module _ (n : Net) (f rank link : ℕ → ℕ) (node : ℕ) (ne : node ≡ 1 → ⊥) (a : Arc) (s : Seen n (link node) a)
     (least least' : ℕ) (w : Narrow n f rank link node least) where
   pub narrow_over : a.tail ≡ node → least' ≡ min least (room_left a.capacity (f (link node)))
@@ -167,19 +156,6 @@ lowered n xs k d l m =
     record {
       here = omega (arith, get_or-set_same xs k (word xs k - d) 0 l);
       there = λ j _ ne. sym (get_or-set_other xs k j (word xs k - d) 0 ne);
-    }
-
-pub pushing_begins : (n : Net) → Bounds n → (rank link : ℕ → ℕ) (w d : ℕ) (flow : List ℕ)
-    → Way n (word flow) rank link d 0 → IsFlow n (word flow) w → NoneAbove n (word flow) w
-    → Pushing n (word flow) rank link w d flow 0 0
-pushing_begins n b rank link w d flow r i s =
-    record {
-      inside = omega (arith, b.sound.two);
-      midway = push_begins n (word flow) w d i s;
-      way = r;
-      same = λ k l p q. refl;
-      stop_in = omega (arith, b.sound.two);
-      resumes = λ g h v. v;
     }
 
 -- room after a push, as the code tests it, is room in any flow that agrees
@@ -387,69 +363,6 @@ way_back n f rank rank' link u ne a s p w = (
   λ nt. let y = goes_against n f rank link u ne a s 0 w nt in way_without rank' u p s.tail_in y.0.less y.2,
 )
 
--- ways and finds depend on ranks and links of nodes alone
-pub leads_views : {n : Net} {f rank : ℕ → ℕ} {k : ℕ} (rank' : ℕ → ℕ) → ((v : ℕ) → v < n.nodes → rank' v ≡ rank v)
-    → {u v : ℕ} → u < n.nodes → v < n.nodes → Leads n f rank k u v → Leads n f rank' k u v
-leads_views rank' same {u} {v} lu lv (inl a) =
-    let x = same u lu in
-    let y = same v lv in
-    inl (record {
-      exists = a.exists;
-      from_is = a.from_is;
-      to_is = a.to_is;
-      left = a.left;
-      some = omega
-          (arith, a.some);
-      less = omega (arith, a.less);
-    })
-leads_views rank' same {u} {v} lu lv (inr a) =
-    let x = same u lu in
-    let y = same v lv in
-    inr (record {
-      exists = a.exists;
-      from_is = a.from_is;
-      to_is = a.to_is;
-      left = a.left;
-      some = omega
-          (arith, a.some);
-      less = omega (arith, a.less);
-    })
-
-pub way_views : {n : Net} {f rank link : ℕ → ℕ} (rank' link' : ℕ → ℕ) → ((v : ℕ) → v < n.nodes → rank' v ≡ rank v)
-    → ((v : ℕ) → v < n.nodes → link' v ≡ link v) → {u : ℕ} → u < n.nodes → Way n f rank link 0 u → Way n f
-    rank' link' 0 u
-way_views rank' link' ranks links l arrived = arrived
-way_views {n} {f} {rank} {link} rank' link' ranks links l (over u v b a fits w) =
-    let x = ranks u l in
-    let y = ranks v b in
-    let c : Over n f rank' (link u) u v =
-    record {
-      exists = a.exists;
-      from_is = a.from_is;
-      to_is = a.to_is;
-      left = a.left;
-      some = omega
-          (arith, a.some);
-      less = omega (arith, a.less);
-    } in
-    let d = subst (λ (j : ℕ). Over n f rank' j u v) (sym (links u l)) c in
-    over u v b d (left_fits n f (link' u) 0 d.left (omega arith)) (way_views rank' link' ranks links b w)
-way_views {n} {f} {rank} {link} rank' link' ranks links l (against u v b a fits w) =
-    let x = ranks u l in
-    let y = ranks v b in
-    let c : Against n f rank' (link u) u v =
-    record {
-      exists = a.exists;
-      from_is = a.from_is;
-      to_is = a.to_is;
-      left = a.left;
-      some = omega
-          (arith, a.some);
-      less = omega (arith, a.less);
-    } in
-    against u v b (subst (λ (j : ℕ). Against n f rank' j u v) (sym (links u l)) c) (omega arith)
-    (way_views rank' link' ranks links b w)
-
 -- the way is laid back from the sink over the arcs by which nodes were found: it stands from `node` on, k
 -- is the arc by which `node` was found, and the nodes of smaller rank still have theirs
 pub record Laying (n : Net) (f rank link : ℕ → ℕ) (node k : ℕ) : Type 0 where
@@ -488,29 +401,22 @@ module _ (n : Net) (f rank link : ℕ → ℕ) (node k : ℕ) (nz : node ≡ 0 �
       (λ y. inr (subst (λ (u : ℕ). Against n f rank k u node) (sym y.from_is ∙ sym s.head_is) y))
       t.2
 
-  -- the step back to u; the ranks are as they were
-  pub laying_more : (u : ℕ) → u < n.nodes → Leads n f rank k u node → (rank' link' : ℕ → ℕ)
-      → ((v : ℕ) → v < n.nodes → rank' v ≡ rank v) → Put n.nodes link link' u k
-      → Laying n f rank' link' u (link u) × (rank' u < rank node)
-  laying_more u lu leads rank' link' ranks p =
+  -- the step back to u
+  pub laying_more : (u : ℕ) → u < n.nodes → Leads n f rank k u node → (link' : ℕ → ℕ) → Put n.nodes link link' u k
+      → Laying n f rank link' u (link u) × (rank u < rank node)
+  laying_more u lu leads link' p =
       let up = leads_less leads in (
         record {
           inside = lu;
-          way = way_more link' u node k x.inside p (leads_views rank' ranks lu x.inside leads)
-              (way_views rank' link ranks (λ v l. refl) x.inside x.way);
-          finds = λ nu. seen u lu (x.below u lu up (leads_some leads) nu);
+          way = way_more link' u node k x.inside p leads x.way;
+          finds = λ nu. x.below u lu up (leads_some leads) nu;
           below = λ v l less some nv.
-              let same = ranks v l in
-              let here = ranks u lu in
-              subst (λ (j : ℕ). Finds n f rank' j v) (sym (p.there v l (λ q. let z = ap rank' q in omega arith)))
-              (seen v l (x.below v l (omega arith) (omega arith) nv));
+              subst (λ (j : ℕ). Finds n f rank j v) (sym (p.there v l (λ q. let z = ap rank q in omega arith)))
+              (x.below v l (omega arith) some nv);
         },
-        omega (arith, ranks u lu),
+        up,
       )
     where
       leads_some : {j y z : ℕ} → Leads n f rank j y z → 0 < rank y
       leads_some (inl b) = b.some
       leads_some (inr b) = b.some
-
-      seen : {j : ℕ} (v : ℕ) → v < n.nodes → Finds n f rank j v → Finds n f rank' j v
-      seen v l t = (t.0, t.1, leads_views rank' ranks t.1 l t.2)

@@ -1,5 +1,5 @@
 -- How an arc is passed: along it over capacity left, or back over its flow.
-use Rattle.std.specs.Prelude.{ℕ, Bool, nat_lt}
+use Rattle.std.specs.Prelude.{ℕ, Bool, true, Some, None, Option, nat_lt}
 use Rattle.flow.specs.declared.visit.Way.{Way}
 use Rattle.flow.specs.declared.visit.Way.TheVariants.{Along, Back}
 use Rattle.flow.specs.Nets.{Net, room}
@@ -21,6 +21,11 @@ near n Back k = n.head k
 abbrev pub far : Net → Way → ℕ → ℕ
 far n Along k = n.head k
 far n Back k = n.tail k
+
+-- whether a cursor lies before the end, if there is one
+abbrev pub is_before : ℕ → Option ℕ → Bool
+is_before cursor None = true
+is_before cursor (Some end) = nat_lt cursor end
 
 -- whether arc k can be passed
 abbrev pub passes : Net → (ℕ → ℕ) → Way → ℕ → Bool

@@ -1,11 +1,10 @@
 // Visits to the nodes of any network, to ask about their arcs: an arc that is told of exists, and its ends are
 // nodes.
-ghost use Rattle.std.specs.Prelude.{◌≡◌, ℕ, ◌-◌, ◌<◌, nat_lt, if◌then◌else◌, None, IfSome};
+ghost use Rattle.std.specs.Prelude.{◌≡◌, ℕ, ◌-◌, ◌<◌, if◌then◌else◌, None, IfSome};
 ghost use Rattle.std.specs.Iterator.{at_most};
 
 use crate::network::{Network, Step};
 use crate::questions::{room_on, word_at};
-use std::ops::Range;
 
 /// How an arc is passed: along it over capacity left, or back over its flow.
 #[derive(Clone, Copy, PartialEq, Eq, Debug)]
@@ -56,18 +55,19 @@ impl<'a, N: Network> Visit<'a, N> {
         }
     }
 
-    /// The steps over the arcs that lead on from the node one way, at a range of cursors.
-    pub fn steps<'v>(&'v self, way: Way, cursors: Range<usize>) -> Steps<'v, 'a, N>
+    /// The steps over the arcs that lead on from the node one way, from a cursor on, and before the end if one is
+    /// given.
+    pub fn steps<'v>(&'v self, way: Way, cursor: usize, end: Option<usize>) -> Steps<'v, 'a, N>
         ensures visit { result.visit.now ≡ self.now }
         ensures way { result.way ≡ way }
-        ensures cursor { result.cursor ≡ cursors.start }
-        ensures end { result.end ≡ cursors.end }
+        ensures cursor { result.cursor ≡ cursor }
+        ensures end { result.end ≡ end }
     {
         Steps {
             visit: self,
             way,
-            cursor: cursors.start,
-            end: cursors.end,
+            cursor,
+            end,
         }
     }
 
@@ -103,11 +103,11 @@ pub struct Steps<'v, 'a, N: Network> {
     visit: &'v Visit<'a, N>,
     way: Way,
     cursor: usize,
-    end: usize,
+    end: Option<usize>,
 }
 
 impl<N: Network> Iterator for Steps<'_, '_, N> {
-    ghost use Rattle.flow.specs.Passing.{near, far, by_way};
+    ghost use Rattle.flow.specs.Passing.{near, far, by_way, is_before};
     ghost use Rattle.flow.specs.Answers.{Asked};
 
     type Item = Step;
@@ -115,14 +115,14 @@ impl<N: Network> Iterator for Steps<'_, '_, N> {
     ghost next_gives = { λ s r t. Asked (N.net s.visit.now.network.now)
         (near (N.net s.visit.now.network.now) s.way) (far (N.net s.visit.now.network.now) s.way)
         s.visit.now.node s.cursor r × (t.visit ≡ s.visit) × (t.way ≡ s.way) × (t.end ≡ s.end)
-        × (r ≡ (if nat_lt s.cursor s.end then by_way s.way (N.outward s.visit.now.network.now s.visit.now.at s.cursor)
+        × (r ≡ (if is_before s.cursor s.end then by_way s.way (N.outward s.visit.now.network.now s.visit.now.at s.cursor)
         (N.inward s.visit.now.network.now s.visit.now.at s.cursor) else None))
         × IfSome r (λ x. t.cursor ≡ x.next) };
 
     ghost remaining = { λ s. at_most (1000000 - s.cursor) };
 
     fn next(&mut self) -> Option<Step> {
-        if self.cursor >= self.end {
+        if self.end.is_some_and(|end| self.cursor >= end) {
             return None;
         }
         let step = self.visit.next(self.way, self.cursor)?;

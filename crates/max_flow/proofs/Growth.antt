@@ -1,5 +1,5 @@
 -- One node more found, in the node words.
-use Rattle.std.proofs.Common.{◌≡◌, ℕ, ◌+◌, ◌<◌, ◌≤◌, eqb, ◌⊎◌, List, set, sym, refl, ap, ◌∙◌, subst, inl, inr, ⊎_elim, arith, below_more}
+use Rattle.std.proofs.Common.{◌≡◌, ℕ, ◌+◌, ◌<◌, ◌≤◌, eqb, ◌⊎◌, List, set, sym, ap, ◌∙◌, subst, inl, inr, ⊎_elim, arith, below_more}
 use Rattle.std.proofs.lemmas.List.{get_or-set_same, get_or-set_other}
 use Rattle.std.proofs.lemmas.Bool.{eq-eqb, cases_eq}
 use Rattle.flow.specs.Sums.{pick}
@@ -18,16 +18,6 @@ unranked_some m rank v l e =
     let at = sum_to_at (λ y. pick (eqb (rank y) 0) 1) v m l in
     let one = ap (λ b. pick b 1) (eq-eqb (rank v) 0 e) in
     omega arith
-
-pub grown_none : {N : _} {A : _} {b : _} (f : ℕ → ℕ) (s : Nodes N A b) (waiting : ℕ) → SearchingIn f s waiting
-    → Grown f s s waiting waiting
-grown_none f s waiting t = record {
-  kept = record { same_network = refl; same_ranks = refl };
-  searching = t;
-  ranked = λ v l h. h;
-  more = omega arith;
-  fewer = omega arith;
-}
 
 pub grown_more : {N : _} {A : _} {b : _} {f : ℕ → ℕ} {s s' s'' : Nodes N A b} {waiting waiting' waiting'' : ℕ}
     → Grown f s s' waiting waiting' → Grown f s' s'' waiting' waiting'' → Grown f s s'' waiting waiting''
@@ -106,19 +96,6 @@ grown_find n f s₀ s s' waiting₀ waiting waiting' u v k en g lu nu ru lv new 
     grown_more g
     (grown_one f s s' waiting waiting' u v k g.searching (omega arith) nu (g.ranked u (omega arith) ru) (omega arith)
     new (subst (λ (y : Net). Opens y f k u v) same opens) e)
-
--- a find shows in the words: one more waits, or the sink has a rank
-pub find_shows : {N : _} {A : _} {b : _} (s s' : Nodes N A b) (waiting v k waiting' : ℕ) → v < (net_of s).nodes
-    → FoundAt s s' waiting v k waiting' → waiting' ≡ waiting → rank_in s' 1 ≡ 0 → ⊥
-find_shows s s' waiting v k waiting' l e same none =
-    ⊎_elim
-    (λ one.
-    let w = (e.sink one).0 in
-    let at = ap (λ (y : List ℕ). word y v) w ∙ get_or-set_same s.rank.now v ((net_of s).nodes + 1) 0 (omega arith) in
-    let here = ap (rank_in s') one in
-    omega arith)
-    (λ ne. omega (arith, (e.node ne).2))
-    (cases_eq v 1)
 
 -- one arc more over which nothing is found
 pub idle_more : {N : _} {A : _} {b : _} (f : ℕ → ℕ) (s₀ s s' : Nodes N A b) (waiting₀ waiting waiting' k : ℕ)

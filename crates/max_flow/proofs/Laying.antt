@@ -4,7 +4,7 @@ use Rattle.std.proofs.lemmas.Bool.{eqb-true, eqb-false}
 use Rattle.flow.specs.declared.network.Arc.{Arc}
 use Rattle.flow.specs.Nets.{Net, word}
 use Rattle.flow.specs.Answers.{Seen}
-use Rattle.flow.specs.Ways.{Leads, Way}
+use Rattle.flow.specs.Ways.{Put, Leads, Way}
 use Rattle.flow.proofs.Ways.{Laying, found_over, found_against, laying_more, way_more}
 use Rattle.max_flow.specs.declared.nodes.Nodes.{Nodes}
 use Rattle.max_flow.specs.Layout.{net_of, rank_in, link_in, SameWays, far_end}
@@ -67,9 +67,12 @@ laying_in f s s₁ node k from a nz x seen same ef = (
     leads : (from < n.nodes) × Leads n f (rank_in s) k from node
     leads = subst (λ (u : ℕ). (u < n.nodes) × Leads n f (rank_in s) k u node) (sym ef) (both (eqb a.head node) refl)
 
+    put : Put n.nodes (link_in s) links from k
+    put =
+        put_set n.nodes s.link.now (set s₁.link.now from k) from k (omega (arith, leads.0))
+        (ap (λ (z : List ℕ). set z from k) same.links)
+
     y : Laying n f (rank_in s₁) links from (link_in s from) × (rank_in s₁ from < rank_in s node)
     y =
-        laying_more n f (rank_in s) (link_in s) node k nz x a seen from leads.0 leads.1 (rank_in s₁) links
-        (λ v l. ap (λ (z : List ℕ). word z v) same.ranks)
-        (put_set n.nodes s.link.now (set s₁.link.now from k) from k (omega (arith, leads.0))
-        (ap (λ (z : List ℕ). set z from k) same.links))
+        subst (λ (z : List ℕ). Laying n f (word z) links from (link_in s from) × (word z from < rank_in s node))
+        (sym same.ranks) (laying_more n f (rank_in s) (link_in s) node k nz x a seen from leads.0 leads.1 links put)

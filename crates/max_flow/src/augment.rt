@@ -126,7 +126,7 @@ impl<N: Network> Nodes<'_, N> {
         requires { node < (net_of self.now).nodes }
     {
         let visit = Visit::new(self.network, node);
-        for step in visit.steps(Way::Back, 0..usize::MAX) {
+        for step in visit.steps(Way::Back, 0, None) {
             if step.arc == k {
                 return Some(step.next as u32);
             }

@@ -18,8 +18,10 @@ pub struct Hit {
     pub next: usize,
 }
 
+// The node of a search in depth is another after each step, so the way from it is a clause and no ghost field.
 impl<N: Network> Nodes<'_, N> {
     /// The first arc from a cursor on over which a node is come to one way, from a node of smaller rank.
+    #[inline(always)]
     fn hit(&self, flow: &[u64], node: usize, way: Way, cursor: usize) -> Option<Hit>
         requires inside { node < (net_of self.now).nodes }
         requires low { cursor < 2147483648 }
@@ -28,7 +30,7 @@ impl<N: Network> Nodes<'_, N> {
         let visit = Visit::new(self.network, node);
         let rank = self.rank[node];
         let mut cursor = cursor;
-        for step in visit.steps(way.turned(), cursor..usize::MAX) {
+        for step in visit.steps(way.turned(), cursor, None) {
             let from = self.rank[step.node];
             if from > 0 && from < rank && visit.passes(way, flow, step.arc) {
                 return Some(Hit {
@@ -44,6 +46,7 @@ impl<N: Network> Nodes<'_, N> {
     }
 
     /// Tries to go down from a node, over an arc that is passed one way.
+    #[inline(always)]
     fn descend(&mut self, flow: &[u64], node: usize, way: Way) -> Option<usize>
         requires inside { node < (net_of self.old).nodes }
         requires way { WayIn flow.now self.old 0 node }
@@ -87,6 +90,7 @@ impl<N: Network> Nodes<'_, N> {
         ensures kept { Kept self.old self.new }
         ensures stepped { Stepped flow.now self.new result }
     {
+        // Two numbers in one word: four words a node is all that is lent.
         if self.place[node] % 2 == 0 {
             if let Some(from) = self.descend(flow, node, Way::Along) {
                 return Some(from);

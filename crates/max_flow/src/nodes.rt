@@ -4,6 +4,7 @@ ghost use Rattle.std.specs.Prelude.{◌≡◌, length};
 use flow::network::Network;
 
 /// The node words of a network: one a node in each of four parts.
+// Four parts and no slice of records: the words are lent, in C too, as one slice of numbers.
 #[derive(Drop)]
 pub struct Nodes<'a, N: Network> {
     pub network: &'a N,

@@ -22,7 +22,7 @@ impl<N: Network> Nodes<'_, N> {
         requires { node < (net_of self.now).nodes }
     {
         let visit = Visit::new(self.network, node);
-        for step in visit.steps(Way::Along, 0..usize::MAX) {
+        for step in visit.steps(Way::Along, 0, None) {
             if self.rank[step.node] == 0 {
                 return true;
             }
@@ -41,6 +41,7 @@ impl<N: Network> Nodes<'_, N> {
         start
     }
 
+    // Apart from `find`: there ranks begin anew and a full queue cannot be, and the arc is written too.
     /// Gives a node the next rank and puts it at the end of the queue; how many wait then. The sink gets the
     /// last of all ranks and does not wait.
     fn rank_node(&mut self, waiting: usize, v: usize) -> usize
@@ -56,6 +57,7 @@ impl<N: Network> Nodes<'_, N> {
         waiting + 1
     }
 
+    // Apart from `find_on`: shared lines would take the find as a closure with the contract of both, and be no fewer.
     /// Ranks the nodes that are reached over the arcs that lead on from a node, one way; how many wait then.
     fn rank_on(&mut self, flow: &[u64], visit: &Visit<N>, way: Way, waiting: usize) -> usize
         requires { visit.now.network ≡ self.old.network }
@@ -63,7 +65,7 @@ impl<N: Network> Nodes<'_, N> {
     {
         let end = self.cursor_end(visit.node, way);
         let mut waiting = waiting;
-        for step in visit.steps(way, 0..end) {
+        for step in visit.steps(way, 0, end) {
             if self.rank[step.node] == 0 && visit.passes(way, flow, step.arc) {
                 waiting = self.rank_node(waiting, step.node);
             }

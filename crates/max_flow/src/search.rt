@@ -11,6 +11,8 @@ use flow::network::Network;
 use flow::questions::{has_room, look, word_at};
 use flow::visit::{Visit, Way};
 
+// The queue is lent words with its length beside them, since nothing is allocated. That a search is under way is a
+// clause of the four that go on with it: a type with that fact would owe it at each find once more, beside the growth.
 impl<N: Network> Nodes<'_, N> {
     /// Writes down that a node was found over an arc; how many nodes wait then.
     fn find(&mut self, waiting: usize, v: usize, k: usize) -> usize
@@ -40,7 +42,7 @@ impl<N: Network> Nodes<'_, N> {
     {
         let end = self.cursor_end(visit.node, way);
         let mut waiting = waiting;
-        for step in visit.steps(way, 0..end) {
+        for step in visit.steps(way, 0, end) {
             if self.rank[step.node] == 0 && visit.passes(way, flow, step.arc) {
                 waiting = self.find(waiting, step.node, step.arc);
             }
@@ -48,13 +50,13 @@ impl<N: Network> Nodes<'_, N> {
         waiting
     }
 
-    /// The cursor from which on no arc leads on from a node, one way.
-    pub fn cursor_end(&self, node: usize, way: Way) -> usize
+    /// The cursor from which on no arc leads on from a node, one way, if it is known.
+    pub fn cursor_end(&self, node: usize, way: Way) -> Option<usize>
         requires { node < (net_of self.now).nodes }
     {
         match way {
-            Way::Along => usize::MAX,
-            Way::Back => self.far[node] as usize,
+            Way::Along => None,
+            Way::Back => Some(self.far[node] as usize),
         }
     }
 

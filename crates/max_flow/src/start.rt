@@ -8,7 +8,7 @@ pub struct Start {
     ranks: [u32; 10_000],
     /// Those of them from which an arc leads to another node.
     roots: [u32; 10_000],
-    /// How many such roots there are.
+    /// How many such roots there are; no list grows here, since nothing is allocated.
     count: usize,
     ghost fits: { count ≤ 10000 },
 }
