@@ -28,28 +28,29 @@ numbers : {s : Range ℕ} (n : ℕ) → s ≡ record { start = 0; end = n }
 numbers n e = YieldsList-from_range 0 n n e (omega arith)
 
 module _ {F : Type 0} {s : Map (Range ℕ) F} {g : Mut F (ℕ × Unit {0}) ℕ} {f : F} (n : ℕ)
-    (source : map_source s ≡ record { start = 0; end = n }) (callee : map_callee s ≡ f) where
-  -- where the closure answers h
-  pub sum_value : (h : ℕ → ℕ) (r : ℕ)
-      → (xs : List ℕ) × (⊤ → Drains (maps nat_range_steps g) s xs) × (r ≡ fold (λ a x. a + x) 0 xs)
-      → ((x v : ℕ) (q : F) → Called g f (x, tt) v q → (q ≡ f) × (v ≡ h x)) → r ≡ sum_to h n
-  sum_value h r ran k =
-      total_from_yields_List (λ a x. a + x) 0 r ran (YieldsList-from_map g h (numbers n source) callee k)
-      ∙ sum_of_range h n
+    (source : map_source s ≡ record { start = 0; end = n }) (callee : map_callee s ≡ f) (few : n ≤ most_terms)
+    (limit : ℕ) where
+  sums_low : ((x v : ℕ) (q : F) → Called g f (x, tt) v q → (q ≡ f) × (v ≤ limit))
+      → EachRunFrom (maps nat_range_steps g) s (λ p. fold (λ a x. a + x) 0 p.items < most_terms * limit + 1)
+  sums_low k =
+      fits_from_length g f most_terms (most_terms * limit + 1)
+      (at_most_from_yields_List (numbers n source) (omega (arith, length-range_with_len 0 n))) callee (omega arith)
+      (λ x v q y. let z = k x v q y in (z.0, omega arith))
 
-  -- and none of its answers is above a limit
-  module _ (few : n ≤ most_terms) (limit : ℕ)
-      (k : (x v : ℕ) (q : F) → Called g f (x, tt) v q → (q ≡ f) × (v ≤ limit)) where
-    sums_low : EachRunFrom (maps nat_range_steps g) s (λ p. fold (λ a x. a + x) 0 p.items < most_terms * limit + 1)
-    sums_low =
-        fits_from_length g f most_terms (most_terms * limit + 1)
-        (at_most_from_yields_List (numbers n source) (omega (arith, length-range_with_len 0 n))) callee
-        (omega arith) (λ x v q y. let z = k x v q y in (z.0, omega arith))
+  -- where no answer of the closure is above a limit
+  pub sum_fits : most_terms * limit < 2 ^ 64
+      → ((x v : ℕ) (q : F) → Called g f (x, tt) v q → (q ≡ f) × (v ≤ limit))
+      → EachRunFrom (maps nat_range_steps g) s (λ p. fold (λ a x. a + x) 0 p.items < 2 ^ 64)
+  sum_fits small k = λ p seen at. omega (arith, sums_low k p seen at)
 
-    pub sum_fits : most_terms * limit < 2 ^ 64
-        → EachRunFrom (maps nat_range_steps g) s (λ p. fold (λ a x. a + x) 0 p.items < 2 ^ 64)
-    sum_fits small = λ p seen at. omega (arith, sums_low p seen at)
-
-    pub sum_low : (r : ℕ) → WholeRun (maps nat_range_steps g) s (λ p. r ≡ fold (λ a x. a + x) 0 p.items)
-        → r ≤ most_terms * limit
-    sum_low r run = omega (arith, run.3, sums_low run.0 run.0.seen run.1)
+  -- and each is that of h
+  pub sum_is : (h : ℕ → ℕ) → ((x v : ℕ) (q : F) → Called g f (x, tt) v q → (q ≡ f) × (v ≡ h x) × (v ≤ limit))
+      → (r : ℕ) → (xs : List ℕ) × (⊤ → Drains (maps nat_range_steps g) s xs) × (r ≡ fold (λ a x. a + x) 0 xs)
+      → WholeRun (maps nat_range_steps g) s (λ p. r ≡ fold (λ a x. a + x) 0 p.items)
+      → (r ≡ sum_to h n) × (r ≤ most_terms * limit)
+  sum_is h k r ran run = (
+    total_from_yields_List (λ a x. a + x) 0 r ran
+        (YieldsList-from_map g h (numbers n source) callee (λ x v q y. let z = k x v q y in (z.0, z.1)))
+        ∙ sum_of_range h n,
+    omega (arith, run.3, sums_low (λ x v q y. let z = k x v q y in (z.0, z.2)) run.0 run.0.seen run.1),
+  )
