@@ -7,7 +7,6 @@ use model::floors::sum_of_floors;
 use model::project::Project;
 use model::refusal::Refusal;
 use table_file::held::Table;
-use table_file::open::inspect;
 
 // The cheapest starts of any project, and what they cost: the floors and the value of the flow.
 // C lends the three memories one by one; a struct of them would be taken apart again at each call.
@@ -37,8 +36,7 @@ fn plan_file(
         starts.old starts.new flow.old flow.new
         nodes.old nodes.new result }
 {
-    inspect(file)?;
-    plan_project(&Table::of_inspected(file), starts, flow, nodes)
+    plan_project(&Table::open(file)?, starts, flow, nodes)
 }
 
 /// Opens a table file and writes the cheapest start of each activity into the first n start bytes, and

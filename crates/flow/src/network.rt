@@ -5,6 +5,7 @@ ghost use Rattle.flow.specs.Nets.{Net, Bounds};
 ghost use Rattle.flow.specs.Answers.{arc_of, capacity_of, Adjacent};
 
 /// How much an arc can carry.
+// Cases with names, since `None` stands for an arc that does not exist.
 #[derive(Clone, Copy, PartialEq, Eq, Debug)]
 pub enum Capacity {
     /// At most this, 0 to 2,000,000,000.

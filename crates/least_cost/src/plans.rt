@@ -18,6 +18,7 @@ use model::refusal::{Fault, Refusal};
 pub use plan_theory::sizes::flow_words;
 use time_network::held::TimeNetwork;
 
+// The two networks differ in type, so the side is told apart here.
 fn flow_over(
     side: Side,
     network: &TimeNetwork,
