@@ -109,6 +109,7 @@ impl<N: Network> Nodes<'_, N> {
     {
         let mut node = 0;
         let mut stop = 0;
+        // From link to link: each is read at the node before, so no range or iterator goes over them.
         while node != 1 {
             let link = self.link_from(node);
             let carried = moved(link.way, flow[link.arc], amount);
@@ -155,6 +156,7 @@ impl<N: Network> Nodes<'_, N> {
         let _ = flow;
         let mut node = 1;
         let mut k = self.link[1] as usize;
+        // From link to link, as above.
         while node != 0 {
             let Some(arc) = look(self.network, k) else {
                 unreachable();
@@ -177,6 +179,7 @@ impl<N: Network> Raising<'_, '_, N> {
     {
         let mut node = 0;
         let mut least = MOST;
+        // From link to link, as above.
         while node != 1 {
             let link = self.nodes.link_from(node);
             least = least.min(left(link.way, link.capacity, self.flow[link.arc]));

@@ -5,6 +5,7 @@ use flow::network::Network;
 
 /// The node words of a network: one a node in each of four parts.
 // Four parts and no slice of records: the words are lent, in C too, as one slice of numbers.
+// A node is a number, as a network names it: a type for it would be made at each step, to be taken apart below.
 #[derive(Drop)]
 pub struct Nodes<'a, N: Network> {
     pub network: &'a N,

@@ -9,6 +9,7 @@ use std::io::Read;
 pub fn read_file<'b>(source: &mut impl Read, buffer: &'b mut [u8]) -> io::Result<Option<&'b [u8]>>
     ensures { IfOk result (λ filled. IfSome filled (λ file. length file.now < length buffer.entry.now)) }
 {
+    // No `read_to_end`: the buffer is all the memory that there is for a file.
     let mut length = 0;
     while length < buffer.len() {
         let read = source.read(&mut buffer[length..])?;

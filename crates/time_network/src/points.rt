@@ -98,6 +98,7 @@ impl TimeNetwork {
         at.clamp(0, self.horizon as i32) as usize
     }
 
+    // Numbers of lags come from cursors and from the index: a type for one would be made at each step.
     pub(crate) fn lag(&self, k: usize) -> Lag
         requires { k < 256 }
         ensures { result ≡ (meant self.now).lag k }
