@@ -96,7 +96,7 @@ impl<P: Project> Point<'_, P> {
         }
     }
 
-    // What the lags take away.
+    // What the lags take away. Sums like this one are a chain each: what is summed is all that they say.
     fn lags_from(&self) -> u64
         ensures value { let rows = self.now.rows.now in
             let m = P.meaning rows.project.now in
@@ -149,7 +149,7 @@ impl<P: Project> Point<'_, P> {
         on + back + self.lags_from()
     }
 
-    // What enters it.
+    // What enters it. Apart from `sends`: the words are those of other slots.
     fn gets(&self) -> u64
         ensures { let rows = self.now.rows.now in
             result ≡ in_to (P.meaning rows.project.now) rows.flow.now self.now.activity self.now.slot }

@@ -38,6 +38,7 @@ impl<P: Project> StartList<'_, P> {
     }
 
     /// Every activity starts below the horizon in a slot that is open for it, or the least that does not.
+    // A loop with `?`, as for lags and nodes: one text for all would take what is checked as a closure, with its contract.
     pub fn check_starts(&self) -> Result<(), Refusal>
         ensures { result ≡ unless (starts_fault (P.meaning self.now.project.now) self.now.starts.now) }
     {

@@ -17,6 +17,7 @@ pub fn node_words<P: Project>(project: &P) -> usize
 }
 
 /// How many chain entries they take: n · H + 1.
+// A size and a formula of its own, as are the node words.
 pub fn chain_entries<P: Project>(project: &P) -> usize
     ensures { result ≡ entries_needed (P.meaning project.now) }
 {

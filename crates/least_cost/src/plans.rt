@@ -101,6 +101,7 @@ pub fn cheapest<P: Project>(
 }
 
 /// The same for the latest of the cheapest lists: one of equal cost starts no activity later.
+// A name for callers beside `cheapest`: the text of both is `plan`.
 pub fn latest<P: Project>(
     project: &P,
     starts: &mut [u8],

@@ -56,7 +56,8 @@ impl<P: Project> Marks<'_, P> {
             .unwrap_or(0)
     }
 
-    // The least slot of an activity that is marked over the turned network, or the horizon.
+    // The least slot of an activity that is marked over the turned network, or the horizon. Apart from `early_start`:
+    // it is looked for from the other end, under other names, and may be absent.
     fn least_marked(&self, activity: usize) -> usize
         requires { activity < (P.meaning self.now.project.now).n }
         ensures least { result ≡ least_marked (P.meaning self.now.project.now) (marked self.now.nodes.now) activity }

@@ -28,6 +28,7 @@ fn room_left(capacity: Capacity, flow: u64) -> u64
 }
 
 /// How much more can pass an arc one way beside its flow, `MOST` at most over a capacity.
+// Three functions of a way, of two lines each: no two of them are asked at one place.
 fn left(way: Way, capacity: Capacity, flow: u64) -> u64
     ensures { result ≡ left way capacity flow }
 {

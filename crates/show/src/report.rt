@@ -81,6 +81,7 @@ impl Report<'_, Table<'_>> {
         )
     }
 
+    // A heading and lines, as other parts of the report, but of some activities alone.
     fn print_closed(&self) -> io::Result<()> {
         println!(self.rt; "")?;
         println!(self.rt; "closed days")?;

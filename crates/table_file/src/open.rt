@@ -73,6 +73,7 @@ impl<'a> Headed<'a> {
         Ok(())
     }
 
+    // A loop with `?` for each kind of field: one text for all would take what is checked as a closure, with its contract.
     fn check_prices(self) -> Result<(), Refusal>
         ensures { result ≡ unless (prices_fault self.entry.bytes.now) tt }
     {
