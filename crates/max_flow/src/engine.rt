@@ -67,8 +67,8 @@ impl<N: Network> Nodes<'_, N> {
     }
 }
 
-/// Searches a network without flow; whether the sink is found. Here and in `raise` the parts come one by one: what
-/// a struct lends is followed back to parameters alone.
+// Here and in `raise_in` the parts come one by one: proofs follow what a struct is lent back to parameters alone.
+/// Searches a network without flow, over these parts of the node words; whether the sink is found.
 fn search_in<N: Network>(
     network: &N,
     rank: &mut [u32],
@@ -89,8 +89,8 @@ fn search_in<N: Network>(
     nodes.search(&[])
 }
 
-/// Raises a flow from none until the sink is not found; its value.
-fn raise<N: Network>(
+/// Raises a flow from none over these parts of the node words, until the sink is not found; its value.
+fn raise_in<N: Network>(
     network: &N,
     flow: &mut [u64],
     rank: &mut [u32],
@@ -129,7 +129,7 @@ fn solve<N: Network>(network: &N, flow: &mut [u64], nodes: &mut [u32]) -> Option
         nodes.fill(0);
         return None;
     }
-    let value = raise(network, flow, rank, link, place, far);
+    let value = raise_in(network, flow, rank, link, place, far);
     mark(nodes, count);
     Some(value)
 }

@@ -41,7 +41,7 @@ impl<N: Network> Nodes<'_, N> {
         start
     }
 
-    // Apart from `find`: there ranks begin anew and a full queue cannot be, and the arc is written too.
+    // Apart from `find`: that writes the arc too, counts ranks from 1 and has always room in the queue.
     /// Gives a node the next rank and puts it at the end of the queue; how many wait then. The sink gets the
     /// last of all ranks and does not wait.
     fn rank_node(&mut self, waiting: usize, v: usize) -> usize

@@ -17,8 +17,8 @@ returns-then-search_in g c =
       c.fill-then-search_in.ensures.after (λ y e. e) ∙ ap (λ m. replicate m 0) (omega arith),
     )
 
-pub raise-value-requires-clause-finite : goal.raise-value-requires-clause-finite
-raise-value-requires-clause-finite g c =
+pub raise_in-value-requires-clause-finite : goal.raise_in-value-requires-clause-finite
+raise_in-value-requires-clause-finite g c =
     let ranks = c.search_in.new.rank in
     let none = ltb-false 0 (word ranks 1) (sym c.if-search_in.ensures.sink) in
     let t = c.search_in.ensures.searched in
@@ -29,7 +29,7 @@ returns g c =
     let x = c.args.network.now in
     let none = ltb-false 0 (word c.search_in.new.rank 1) (sym c.if-search_in.ensures.sink) in
     let t = c.search_in.ensures.searched in
-    maximum (g.N.Network.net x) (g.N.Network.bounded x) c.raise-value.new.flow c.raise-value.new.rank _
-    c.mark.new.nodes c.raise-value.result c.node_count-count.result c.node_count-count.ensures (search rules)
+    maximum (g.N.Network.net x) (g.N.Network.bounded x) c.raise_in-value.new.flow c.raise_in-value.new.rank _
+    c.mark.new.nodes c.raise_in-value.result c.node_count-count.result c.node_count-count.ensures (search rules)
     (unhindered_none (g.N.Network.net x) (λ k. 0) (word c.search_in.new.rank) t.0 t.1 (omega arith))
-    c.raise-value.ensures (λ v l. get_or_append_left c.raise-value.new.rank _ 0 v (omega arith)) c.mark.ensures
+    c.raise_in-value.ensures (λ v l. get_or_append_left c.raise_in-value.new.rank _ 0 v (omega arith)) c.mark.ensures

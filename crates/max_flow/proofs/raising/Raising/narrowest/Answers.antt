@@ -1,9 +1,13 @@
 use Rattle.std.proofs.Common.{sym, subst, arith}
 use Rattle.flow.specs.Nets.{word}
 use Rattle.flow.specs.Ways.{Way, arrived}
+use Rattle.flow.proofs.Ways.{way_exists}
 use Rattle.max_flow.specs.Layout.{net_of, rank_in, link_in}
 use Rattle.max_flow.proofs.Walks.{narrow_on}
 use Rattle.max_flow.proofs.raising.Raising.narrowest.Goals as goal
+
+pub link_from-link-requires-clause-exists : goal.link_from-link-requires-clause-exists
+link_from-link-requires-clause-exists g c = way_exists c.loop-node.invariant.way c.loop-node-test.true
 
 pub loop-node-smaller : goal.loop-node-smaller
 loop-node-smaller g c =

@@ -1,7 +1,7 @@
 use Rattle.std.proofs.Common.{rules}
 use Rattle.max_flow.proofs.Keeping.{same_net}
 use Rattle.max_flow.proofs.Marking.{climbed_in}
-use Rattle.max_flow.proofs.engine.raise.Goals as goal
+use Rattle.max_flow.proofs.engine.raise_in.Goals as goal
 
 pub returns : goal.returns
 returns g c =
