@@ -155,7 +155,7 @@ impl<'a> Table<'a> {
         ensures fault { result_err result ≡ file_fault file.now }
     {
         check(file)?;
-        Ok(Table { file })
+        Ok(Table::of_inspected(file))
     }
 }
 

@@ -21,6 +21,14 @@ use relations::relation::Relation;
 const NOTHING_BELOW: u8 = 0;
 
 impl<'a> Table<'a> {
+    /// The table of a file that is known to be without a fault; no field is looked at again.
+    pub fn of_inspected(file: &'a [u8]) -> Table<'a>
+        requires { faultless file.now ≡ true }
+        ensures { result.file.now ≡ file.now }
+    {
+        Table { file }
+    }
+
     fn headed(&self) -> Headed<'a>
         ensures bytes { result.bytes.now ≡ self.now.file.now }
         ensures lengths { Lengths self.now.file.now }
