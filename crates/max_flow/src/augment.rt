@@ -28,7 +28,7 @@ fn room_left(capacity: Capacity, flow: u64) -> u64
 }
 
 /// How much more can pass an arc one way beside its flow, `MOST` at most over a capacity.
-// Three functions of a way, of two lines each: no two of them are asked at one place.
+// Three questions of a way, each a match of two lines: one text for all would be no shorter.
 fn left(way: Way, capacity: Capacity, flow: u64) -> u64
     ensures { result ≡ left way capacity flow }
 {

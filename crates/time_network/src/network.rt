@@ -56,7 +56,7 @@ impl Network for TimeNetwork {
         self.place_of(v)
     }
 
-    // What leaves a place and what enters it are functions of their own, so each question names its three.
+    // Other functions leave and enter a place, so each question has a `match` of its own.
     fn leaving(&self, at: Place, cursor: usize) -> Option<Step> {
         match at {
             Place::Source => self.leaving_source(cursor),
