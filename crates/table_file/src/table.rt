@@ -124,7 +124,7 @@ impl<'a> Project for Table<'a> {
             return None;
         }
         let number = activity * u16::from(headed.horizon()) + slot.0;
-        let price = headed.cell(number).price().unwrap();
+        let price = headed.cell(number).price_there();
         if price == i32::MIN {
             Some(Price::Closed(0))
         } else {
