@@ -363,6 +363,69 @@ way_back n f rank rank' link u ne a s p w = (
   λ nt. let y = goes_against n f rank link u ne a s 0 w nt in way_without rank' u p s.tail_in y.0.less y.2,
 )
 
+-- ways and finds depend on ranks and links of nodes alone
+pub leads_views : {n : Net} {f rank : ℕ → ℕ} {k : ℕ} (rank' : ℕ → ℕ) → ((v : ℕ) → v < n.nodes → rank' v ≡ rank v)
+    → {u v : ℕ} → u < n.nodes → v < n.nodes → Leads n f rank k u v → Leads n f rank' k u v
+leads_views rank' same {u} {v} lu lv (inl a) =
+    let x = same u lu in
+    let y = same v lv in
+    inl (record {
+      exists = a.exists;
+      from_is = a.from_is;
+      to_is = a.to_is;
+      left = a.left;
+      some = omega
+          (arith, a.some);
+      less = omega (arith, a.less);
+    })
+leads_views rank' same {u} {v} lu lv (inr a) =
+    let x = same u lu in
+    let y = same v lv in
+    inr (record {
+      exists = a.exists;
+      from_is = a.from_is;
+      to_is = a.to_is;
+      left = a.left;
+      some = omega
+          (arith, a.some);
+      less = omega (arith, a.less);
+    })
+
+pub way_views : {n : Net} {f rank link : ℕ → ℕ} (rank' link' : ℕ → ℕ) → ((v : ℕ) → v < n.nodes → rank' v ≡ rank v)
+    → ((v : ℕ) → v < n.nodes → link' v ≡ link v) → {u : ℕ} → u < n.nodes → Way n f rank link 0 u → Way n f
+    rank' link' 0 u
+way_views rank' link' ranks links l arrived = arrived
+way_views {n} {f} {rank} {link} rank' link' ranks links l (over u v b a fits w) =
+    let x = ranks u l in
+    let y = ranks v b in
+    let c : Over n f rank' (link u) u v =
+    record {
+      exists = a.exists;
+      from_is = a.from_is;
+      to_is = a.to_is;
+      left = a.left;
+      some = omega
+          (arith, a.some);
+      less = omega (arith, a.less);
+    } in
+    let d = subst (λ (j : ℕ). Over n f rank' j u v) (sym (links u l)) c in
+    over u v b d (left_fits n f (link' u) 0 d.left (omega arith)) (way_views rank' link' ranks links b w)
+way_views {n} {f} {rank} {link} rank' link' ranks links l (against u v b a fits w) =
+    let x = ranks u l in
+    let y = ranks v b in
+    let c : Against n f rank' (link u) u v =
+    record {
+      exists = a.exists;
+      from_is = a.from_is;
+      to_is = a.to_is;
+      left = a.left;
+      some = omega
+          (arith, a.some);
+      less = omega (arith, a.less);
+    } in
+    against u v b (subst (λ (j : ℕ). Against n f rank' j u v) (sym (links u l)) c) (omega arith)
+    (way_views rank' link' ranks links b w)
+
 -- the way is laid back from the sink over the arcs by which nodes were found: it stands from `node` on, k
 -- is the arc by which `node` was found, and the nodes of smaller rank still have theirs
 pub record Laying (n : Net) (f rank link : ℕ → ℕ) (node k : ℕ) : Type 0 where
@@ -401,22 +464,29 @@ module _ (n : Net) (f rank link : ℕ → ℕ) (node k : ℕ) (nz : node ≡ 0 �
       (λ y. inr (subst (λ (u : ℕ). Against n f rank k u node) (sym y.from_is ∙ sym s.head_is) y))
       t.2
 
-  -- the step back to u
-  pub laying_more : (u : ℕ) → u < n.nodes → Leads n f rank k u node → (link' : ℕ → ℕ) → Put n.nodes link link' u k
-      → Laying n f rank link' u (link u) × (rank u < rank node)
-  laying_more u lu leads link' p =
+  -- the step back to u; the ranks are as they were
+  pub laying_more : (u : ℕ) → u < n.nodes → Leads n f rank k u node → (rank' link' : ℕ → ℕ)
+      → ((v : ℕ) → v < n.nodes → rank' v ≡ rank v) → Put n.nodes link link' u k
+      → Laying n f rank' link' u (link u) × (rank' u < rank node)
+  laying_more u lu leads rank' link' ranks p =
       let up = leads_less leads in (
         record {
           inside = lu;
-          way = way_more link' u node k x.inside p leads x.way;
-          finds = λ nu. x.below u lu up (leads_some leads) nu;
+          way = way_more link' u node k x.inside p (leads_views rank' ranks lu x.inside leads)
+              (way_views rank' link ranks (λ v l. refl) x.inside x.way);
+          finds = λ nu. seen u lu (x.below u lu up (leads_some leads) nu);
           below = λ v l less some nv.
-              subst (λ (j : ℕ). Finds n f rank j v) (sym (p.there v l (λ q. let z = ap rank q in omega arith)))
-              (x.below v l (omega arith) some nv);
+              let same = ranks v l in
+              let here = ranks u lu in
+              subst (λ (j : ℕ). Finds n f rank' j v) (sym (p.there v l (λ q. let z = ap rank' q in omega arith)))
+              (seen v l (x.below v l (omega arith) (omega arith) nv));
         },
-        up,
+        omega (arith, ranks u lu),
       )
     where
       leads_some : {j y z : ℕ} → Leads n f rank j y z → 0 < rank y
       leads_some (inl b) = b.some
       leads_some (inr b) = b.some
+
+      seen : {j : ℕ} (v : ℕ) → v < n.nodes → Finds n f rank j v → Finds n f rank' j v
+      seen v l t = (t.0, t.1, leads_views rank' ranks t.1 l t.2)
