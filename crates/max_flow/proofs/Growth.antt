@@ -87,14 +87,13 @@ module _ {N : _} {A : _} {b : _} (f : ℕ → ℕ) (s s' : Nodes N A b) (waiting
 -- the same after a search that grew from s₀ to s, of the same network n
 pub grown_find : {N : _} {A : _} {b : _} (n : Net) (f : ℕ → ℕ) (s₀ s s' : Nodes N A b)
     (waiting₀ waiting waiting' u v k : ℕ) → n ≡ net_of s₀ → Grown f s₀ s waiting₀ waiting → u < n.nodes → (u ≡ 1 → ⊥)
-    → 0 < rank_in s₀ u → v < n.nodes → rank_in s v ≡ 0 → Opens n f k u v → FoundAt s s' waiting v k waiting'
+    → 0 < rank_in s u → v < n.nodes → rank_in s v ≡ 0 → Opens n f k u v → FoundAt s s' waiting v k waiting'
     → Grown f s₀ s' waiting₀ waiting'
 grown_find n f s₀ s s' waiting₀ waiting waiting' u v k en g lu nu ru lv new opens e =
     let same : n ≡ net_of s = en ∙ sym (same_net g.kept) in
     let m = ap (λ (y : Net). y.nodes) same in
-    let m₀ = ap (λ (y : Net). y.nodes) en in
     grown_more g
-    (grown_one f s s' waiting waiting' u v k g.searching (omega arith) nu (g.ranked u (omega arith) ru) (omega arith)
+    (grown_one f s s' waiting waiting' u v k g.searching (omega arith) nu ru (omega arith)
     new (subst (λ (y : Net). Opens y f k u v) same opens) e)
 
 -- one arc more over which nothing is found

@@ -21,9 +21,17 @@ same_ways {s = s} {s₁ = s₁} {s₂ = s₂} e n r l =
       links = ap (λ x. x.now) l;
     })
 
-pub way_same : {N : _} {A : _} {b : _} {s s₁ : Nodes N A b} (flow : List ℕ) (v : ℕ) → s₁ ≡ s → WayIn flow s 0 v
+pub all_same : {N : _} {A : _} {b : _} {s s₁ : Nodes N A b} → s₁ ≡ s → SameWays s s₁
+all_same {s = s} e =
+    subst (SameWays s) (sym e) (record { kept = record { same_network = refl; same_ranks = refl }; ranks = refl; links = refl })
+
+-- the way where ranks and links are as they were
+pub way_same : {N : _} {A : _} {b : _} {s s₁ : Nodes N A b} (flow : List ℕ) (v : ℕ) → SameWays s s₁ → WayIn flow s 0 v
     → WayIn flow s₁ 0 v
-way_same flow v e = subst (λ x. WayIn flow x 0 v) (sym e)
+way_same {s = s} {s₁ = s₁} flow v same w =
+    subst (λ (n : Net). Way n (word flow) (rank_in s₁) (link_in s₁) 0 v) (sym (same_net same.kept))
+    (subst (λ (z : List ℕ). Way (net_of s) (word flow) (word z) (link_in s₁) 0 v) (sym same.ranks)
+    (subst (λ (z : List ℕ). Way (net_of s) (word flow) (rank_in s) (word z) 0 v) (sym same.links) w))
 
 -- the way goes down from v to u over arc k
 pub way_down : {N : _} {A : _} {b : _} (flow : List ℕ) (s s₁ : Nodes N A b) (u v k : ℕ) → SameWays s s₁
@@ -75,4 +83,4 @@ laying_in f s s₁ node k from a nz x seen same ef = (
     y : Laying n f (rank_in s₁) links from (link_in s from) × (rank_in s₁ from < rank_in s node)
     y =
         subst (λ (z : List ℕ). Laying n f (word z) links from (link_in s from) × (word z from < rank_in s node))
-        (sym same.ranks) (laying_more n f (rank_in s) (link_in s) node k nz x a seen from leads.0 leads.1 links put)
+        (sym same.ranks) (laying_more n f (rank_in s) (link_in s) node k nz x a seen from leads.0 leads.1 (rank_in s) links (λ v l. refl) put)

@@ -55,7 +55,10 @@ impl<N: Network> Nodes<'_, N> {
         ensures kept { Kept self.old self.new }
         ensures climbed { Climbed (net_of self.new) flow.new self.new.rank.now result }
     {
-        let start = self.start();
+        // Filled where it stands: to hand on so large a table takes longer than the flow of a small network.
+        let mut start = Start::new();
+        start.take_ranks(self.rank);
+        self.add_roots(&mut start);
         flow.fill(0);
         let mut raising = Raising {
             nodes: self,

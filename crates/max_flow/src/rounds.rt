@@ -4,7 +4,7 @@
 //
 // Nodes that unbounded arcs alone lead to are reached whatever the flow is. They keep the ranks of the first
 // search for good, and of them only those are asked again from which some arc leads to other nodes.
-ghost use Rattle.std.specs.Prelude.{◌≡◌, ◌<◌, ◌≤◌};
+ghost use Rattle.std.specs.Prelude.{◌≡◌, ◌+◌, ◌<◌, ◌≤◌};
 ghost use Rattle.max_flow.specs.Layout.{net_of, Kept, KeptAll};
 
 use crate::nodes::Nodes;
@@ -30,15 +30,13 @@ impl<N: Network> Nodes<'_, N> {
         false
     }
 
-    /// The start, read off the ranks that a search over unbounded arcs alone has left.
-    pub fn start(&self) -> Start {
-        let mut start = Start::new(self.rank);
+    /// Adds the roots to a start with the ranks that a search over unbounded arcs alone has left.
+    pub fn add_roots(&self, start: &mut Start) {
         for (v, rank) in self.rank.iter().enumerate() {
             if *rank > 0 && self.leads_on(v) {
                 start.add_root(v as u32);
             }
         }
-        start
     }
 
     // Apart from `find`: that writes the arc too, counts ranks from 1 and has always room in the queue.
@@ -46,7 +44,8 @@ impl<N: Network> Nodes<'_, N> {
     /// last of all ranks and does not wait.
     fn rank_node(&mut self, waiting: usize, v: usize) -> usize
         requires { v < (net_of self.old).nodes }
-        ensures { Kept self.old self.new }
+        ensures kept { Kept self.old self.new }
+        ensures most { result ≤ waiting + 1 }
     {
         if v == 1 || waiting >= self.place.len() {
             self.rank[v] = u32::MAX;

@@ -14,16 +14,21 @@ pub struct Start {
 }
 
 impl Start {
-    /// A start with these ranks and no roots.
-    pub fn new(given: &[u32]) -> Start
-        requires { length given.now ≤ 10000 }
-    {
-        let mut ranks = [0; 10_000];
-        ranks[..given.len()].copy_from_slice(given);
+    /// No node is reached, and there are no roots.
+    pub fn new() -> Start {
         Start {
-            ranks,
+            ranks: [0; 10_000],
             roots: [0; 10_000],
             count: 0,
+        }
+    }
+
+    /// Takes the ranks of the first nodes.
+    pub fn take_ranks(&mut self, given: &[u32])
+        requires { length given.now ≤ 10000 }
+    {
+        for (v, rank) in given.iter().enumerate() {
+            self.ranks[v] = *rank;
         }
     }
 
