@@ -1,7 +1,7 @@
 -- What is written down of a project is its time network.
 use Rattle.std.proofs.Common.{◌≡◌, ℕ, ◌*◌, ◌<◌, ◌≤◌, Bool, true, false, not, ◌&&◌, T, ltb, List, ℤ, pos, negsuc, ◌+ℤ◌, sym, refl, ap, ◌∙◌, subst, arith}
 use lib.Signed.{le_z}
-use Rattle.std.proofs.lemmas.Bool.{lt-ltb, le-ltb, and_from, cond-true, cond-false}
+use Rattle.std.proofs.lemmas.Bool.{lt-ltb, le-ltb, le-leb, and_from, cond-true, cond-false}
 use Rattle.std.proofs.lemmas.Nat.{mul-add-lt}
 use Rattle.model.specs.declared.price.Price.{Price}
 use Rattle.model.specs.declared.price.Price.TheVariants.{Open, Closed}
@@ -13,7 +13,7 @@ use Rattle.plan_theory.specs.TimeNetwork.{point, cut_to, above, on_arc, back_arc
 use Rattle.plan_theory.specs.TimeArcs.{on_tail, on_head, on_capacity, on_unbounded, back_tail, back_head, back_capacity, back_unbounded, lag_tail_is, lag_head_is, lag_capacity, lag_unbounded, on_exists, each_arc}
 use Rattle.plan_theory.specs.TimeBounds.{time_bounds}
 use Rattle.time_network.specs.Agreement.{Same}
-use Rattle.time_network.specs.Held.{lag_fits, LagsFit, held, held_net, capacity_at, amount, bounds_none, WithinLimit}
+use Rattle.time_network.specs.Held.{lag_fits, LagsFit, held, held_net, capacity_at, amount, bounds_none, in_limit, WithinLimit}
 use Rattle.time_network.specs.Making.{rise, Priced, Copied}
 
 T_true : (x : Bool) → T x → x ≡ true
@@ -33,9 +33,13 @@ lags_fit m b n count lags e f c k l =
     let lk : k < m.lags = omega arith in
     ap (lag_fits n) (c.copied k lk) ∙ (ap (λ (x : ℕ). lag_fits x (m.lag k)) e ∙ within_fits m.n (m.lag k) (b.lag_ok k lk))
 
-amount_of : (low : ℤ) (p : Price) → amount (rise low p) ≡ above low p
-amount_of low (Open p) = refl
-amount_of low (Closed height) = refl
+amount_of : (low : ℤ) (p : Price) → above low p ≤ 2000000000 → amount (rise low p) ≡ above low p
+amount_of low (Open p) few = omega arith
+amount_of low (Closed height) few = refl
+
+in_limit_of : (low : ℤ) (p : Price) → above low p ≤ 2000000000 → in_limit (rise low p) ≡ true
+in_limit_of low (Open p) few = le-leb (above low (Open p)) 2000000000 few
+in_limit_of low (Closed height) few = refl
 
 none_of : (low : ℤ) (p : Price) → bounds_none (rise low p) ≡ not (is_open p)
 none_of low (Open p) = refl
@@ -76,7 +80,7 @@ module _ (m : Meaning) (b : Bounds m) (lags : List Lag) (capacities : List Capac
       (λ a t la lt.
       cond-true _ _ _ (lt-ltb (on_arc m a t) (m.n * m.horizon) (on_low a t la lt))
       ∙ (ap amount (p.written a t la lt)
-      ∙ (amount_of (floor m a) (m.price a t) ∙ sym (on_capacity m a t la lt))))
+      ∙ (amount_of (floor m a) (m.price a t) (rise_limit a t la lt) ∙ sym (on_capacity m a t la lt))))
       (λ a t la lt.
       cond-false _ _ _ (le-ltb (back_arc m a t) (m.n * m.horizon) (omega arith)) ∙ sym (back_capacity m a t la lt))
       (λ k t lk lt.
@@ -93,10 +97,10 @@ module _ (m : Meaning) (b : Bounds m) (lags : List Lag) (capacities : List Capac
       (λ k t lk lt.
       cond-false _ _ _ (le-ltb (lag_arc m k t) (m.n * m.horizon) (omega arith)) ∙ sym (lag_unbounded m k t lt))
 
-  limited_here : (k : ℕ) → k < (time_net m).arcs → k < m.n * m.horizon → amount (capacity_at capacities k) ≤ 2000000000
-  limited_here = each_arc m b (λ k. k < m.n * m.horizon → amount (capacity_at capacities k) ≤ 2000000000)
+  limited_here : (k : ℕ) → k < (time_net m).arcs → k < m.n * m.horizon → in_limit (capacity_at capacities k) ≡ true
+  limited_here = each_arc m b (λ k. k < m.n * m.horizon → in_limit (capacity_at capacities k) ≡ true)
       (λ a t la lt l.
-      omega (arith, ap amount (p.written a t la lt) ∙ amount_of (floor m a) (m.price a t), rise_limit a t la lt))
+      ap in_limit (p.written a t la lt) ∙ in_limit_of (floor m a) (m.price a t) (rise_limit a t la lt))
       (λ a t la lt l. absurd (omega arith))
       (λ k t lk lt l. absurd (omega arith))
 

@@ -1,6 +1,6 @@
 -- What a time network holds: the lags of a project with an index, and the capacity of each price arc. As to
 -- ends of arcs it is the time network of a project that has these lags.
-use Rattle.std.specs.Prelude.{◌≡◌, ℕ, ◌+◌, ◌*◌, ◌<◌, ◌≤◌, Bool, true, false, cond, ◌&&◌, List, pos, negsuc, ◌==◌, int_le, nat_lt, slice_index, slice_index_or, refl}
+use Rattle.std.specs.Prelude.{◌≡◌, ℕ, ◌+◌, ◌*◌, ◌<◌, ◌≤◌, Bool, true, false, cond, ◌&&◌, List, pos, negsuc, ◌==◌, int_le, nat_lt, nat_le, min, slice_index, slice_index_or, refl}
 use Rattle.std.proofs.Common.{arith}
 use Rattle.std.proofs.lemmas.Bool.{ltb-true, and_parts, cond_both}
 use Rattle.std.proofs.lemmas.Int.{ints}
@@ -72,14 +72,19 @@ abbrev pub bounds_none : Capacity → Bool
 bounds_none (Bounded most) = false
 bounds_none Unbounded = true
 
--- what a capacity bounds an arc to; of an unbounded one it is of no account
+-- what a capacity bounds an arc to, no more than a network may carry; of an unbounded one it is of no account
 abbrev pub amount : Capacity → ℕ
-amount (Bounded most) = most
+amount (Bounded most) = min most 2000000000
 amount Unbounded = 0
 
--- none of the first capacities lies above what a network may carry
+-- whether a network may have this capacity
+abbrev pub in_limit : Capacity → Bool
+in_limit (Bounded most) = nat_le most 2000000000
+in_limit Unbounded = true
+
+-- the first capacities are such as a network may have
 abbrev pub WithinLimit : ℕ → List Capacity → Type 0
-WithinLimit count capacities = (k : ℕ) → k < count → amount (capacity_at capacities k) ≤ 2000000000
+WithinLimit count capacities = (k : ℕ) → k < count → in_limit (capacity_at capacities k) ≡ true
 
 abbrev pub held_net : Meaning → List Capacity → Net
 held_net m capacities =
@@ -119,9 +124,12 @@ held_bounds n h count lags a b c d e f =
       height_ok = omega arith;
     }
 
-pub held_net_bounds : (m : Meaning) (capacities : List Capacity) → meanings.Bounds m
-    → WithinLimit (m.n * m.horizon) capacities → Bounds (held_net m capacities)
-held_net_bounds m capacities b limited =
+amount_limit : (c : Capacity) → amount c ≤ 2000000000
+amount_limit (Bounded most) = omega arith
+amount_limit Unbounded = omega arith
+
+pub held_net_bounds : (m : Meaning) (capacities : List Capacity) → meanings.Bounds m → Bounds (held_net m capacities)
+held_net_bounds m capacities b =
     let x = time_bounds m b in
     record {
       sound = record { two = x.sound.two; tails = x.sound.tails; heads = x.sound.heads };
@@ -129,5 +137,5 @@ held_net_bounds m capacities b limited =
       arcs_limit = x.arcs_limit;
       capacity_limit = λ k l.
           cond_both (nat_lt k (m.n * m.horizon)) (amount (capacity_at capacities k)) 0 (λ y. y ≤ 2000000000)
-          (λ e. limited k (ltb-true k (m.n * m.horizon) e)) (λ e. omega arith);
+          (λ e. amount_limit (capacity_at capacities k)) (λ e. omega arith);
     }

@@ -17,4 +17,4 @@ meant_bounds x =
     x.joined
 
 pub net_bounds : (x : TimeNetwork) → Bounds (net_of x)
-net_bounds x = held_net_bounds (meant x) x.capacities (meant_bounds x) x.limited
+net_bounds x = held_net_bounds (meant x) x.capacities (meant_bounds x)

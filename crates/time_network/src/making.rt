@@ -47,14 +47,13 @@ fn write_row<P: Project>(project: &P, activity: u16, capacities: &mut [Capacity;
     }
 }
 
-fn capacities_of<P: Project>(project: &P) -> [Capacity; 8192]
-    ensures { AllPriced (P.meaning project.now) result }
+/// Writes the capacities of all activities.
+fn write_rows<P: Project>(project: &P, capacities: &mut [Capacity; 8192])
+    ensures { AllPriced (P.meaning project.now) capacities.new }
 {
-    let mut capacities = [Capacity::Unbounded; 8192];
     for a in 0..project.count() {
-        write_row(project, a, &mut capacities);
+        write_row(project, a, capacities);
     }
-    capacities
 }
 
 fn lags_of<P: Project>(project: &P) -> [Lag; 256]
@@ -78,7 +77,8 @@ impl TimeNetwork {
         let lags = lags_of(project);
         let leads = index_of(&lags, lag_count, End::From);
         let ends = index_of(&lags, lag_count, End::To);
-        let capacities = capacities_of(project);
+        let mut capacities = [Capacity::Unbounded; 8192];
+        write_rows(project, &mut capacities);
         TimeNetwork {
             activities,
             horizon,

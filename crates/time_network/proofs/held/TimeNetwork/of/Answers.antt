@@ -15,8 +15,8 @@ invariant_of-result g c =
       ahead = omega (arith, b.h_low);
       near = omega (arith, b.h_high);
       counted = omega (arith, b.lags_ok);
-      limited = limited m b c.lags_of-lags.result c.capacities_of-capacities.result c.lags_of-lags.ensures
-          c.capacities_of-capacities.ensures c.count-activities.result c.horizon-horizon.result n h;
+      limited = limited m b c.lags_of-lags.result c.write_rows.new.capacities c.lags_of-lags.ensures
+          c.write_rows.ensures c.count-activities.result c.horizon-horizon.result n h;
       joined = lags_fit m b c.count-activities.result c.lag_count-lag_count.result c.lags_of-lags.result n k c.lags_of-lags.ensures;
       leading = c.index_of-leads.ensures;
       ending = c.index_of-ends.ensures;
@@ -25,6 +25,6 @@ invariant_of-result g c =
 pub returns : goal.returns
 returns g c =
     let x = c.args.project.now in
-    same_made (g.P.Project.meaning x) (g.met.P.Project.bounded x) c.lags_of-lags.result c.capacities_of-capacities.result
-    c.lags_of-lags.ensures c.capacities_of-capacities.ensures c.count-activities.result c.horizon-horizon.result
+    same_made (g.P.Project.meaning x) (g.met.P.Project.bounded x) c.lags_of-lags.result c.write_rows.new.capacities
+    c.lags_of-lags.ensures c.write_rows.ensures c.count-activities.result c.horizon-horizon.result
     c.lag_count-lag_count.result c.count-activities.ensures c.horizon-horizon.ensures c.lag_count-lag_count.ensures

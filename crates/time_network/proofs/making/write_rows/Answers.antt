@@ -1,9 +1,8 @@
-use Rattle.std.proofs.Common.{refl}
 use Rattle.time_network.proofs.Fills.{priced_none, priced_more}
-use Rattle.time_network.proofs.making.capacities_of.Goals as goal
+use Rattle.time_network.proofs.making.write_rows.Goals as goal
 
 pub loop-a-init : goal.loop-a-init
-loop-a-init g c = (priced_none _ _, refl)
+loop-a-init g c = (priced_none _ _, c.told-capacities)
 
 pub loop-a-preserved : goal.loop-a-preserved
 loop-a-preserved g c = (
