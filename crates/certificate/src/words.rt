@@ -31,8 +31,9 @@ impl<'a, P: Project> Floors<'a, P> {
     pub fn of(project: &'a P) -> Self
         ensures { result.project.now ≡ project.now }
     {
+        let count = project.count() as usize;
         let mut floors = [0; 64];
-        for (a, floor) in floors.iter_mut().enumerate() {
+        for (a, floor) in floors[..count].iter_mut().enumerate() {
             *floor = floor_of(project, a as u16);
         }
         Floors { project, floors }
