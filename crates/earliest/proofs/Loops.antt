@@ -1,11 +1,11 @@
 -- What keeping a node leaves, and what a step that was taken tells of all before it.
-use Rattle.std.proofs.Common.{◌≡◌, ℕ, ◌+◌, ◌-◌, ◌*◌, ◌<◌, ◌≤◌, List, [], length, set, None, Option, replicate, sym, ap, ◌∙◌, subst, mul-le-mul, arith, below_more}
+use Rattle.std.proofs.Common.{◌≡◌, ℕ, ◌+◌, ◌-◌, ◌*◌, ◌<◌, ◌≤◌, List, [], length, set, None, Option, replicate, refl, sym, ap, ◌∙◌, subst, mul-le-mul, arith, below_more}
 use Rattle.std.proofs.lemmas.List.{get_or-set_same, get_or-set_other, get_or-replicate}
 use Rattle.model.specs.Meaning.{Meaning, Bounds}
 use Rattle.earliest.specs.declared.nodes.Node.{Node}
 use Rattle.earliest.specs.Nodes.{of_words, node_of}
 use Rattle.earliest.specs.Outcome.{node_count}
-use Rattle.earliest.specs.Pushing.{latest_of, Pushes, State, Taken}
+use Rattle.earliest.specs.Pushing.{latest_of, Pushes, State, Taken, Kept}
 use Rattle.earliest.proofs.Steps.{fresh, pushed, nodes_few}
 
 pub few_fit : (m : Meaning) (nd : ℕ → Node) (la : ℕ → ℕ) (c : ℕ) → Bounds m → State m nd la c → c ≤ 8128
@@ -33,6 +33,19 @@ kept m ns ls c ws v s p low long room is =
     (λ f ne. ap of_words (get_or-set_other ns (c + 1) f ws [] ne))
     (get_or-set_same ls v.entry.activity (c + 1) 0 (omega (arith, p.real)))
     (λ b ne. get_or-set_other ls v.entry.activity b (c + 1) 0 ne)
+
+-- and what it changed
+pub kept_one : (ns : List (List ℕ)) (ls : List ℕ) (c : ℕ) (ws : List ℕ) (v : Node) → c + 1 < length ns → of_words ws ≡ v
+    → Kept ns ls c (set ns (c + 1) ws) (set ls v.entry.activity (c + 1)) (c + 1) v
+kept_one ns ls c ws v room is =
+    record {
+      counted = refl;
+      written = record {
+        here = ap of_words (get_or-set_same ns (c + 1) ws [] room) ∙ is;
+        elsewhere = λ f ne. ap of_words (get_or-set_other ns (c + 1) f ws [] ne);
+      };
+      newest = refl;
+    }
 
 -- as long as nothing is pushed, no step before found a node
 pub still_none : (f : List (List ℕ) → List ℕ → ℕ → Option Node) (i c0 c c' : ℕ) (ns ns' : List (List ℕ)) (ls ls' : List ℕ) (s r : Option Node)

@@ -1,6 +1,6 @@
 -- How nodes stand in lent words; callers need none of this. Four words each. A node is an entry that some
 -- chain may have, and the number of the node before it, 0 if that is the chain's first entry.
-use Rattle.std.specs.Prelude.{ℕ, ◌-◌, min, cond, List, [], ◌==◌, nat_lt, slice_index, slice_index_or}
+use Rattle.std.specs.Prelude.{◌≡◌, ℕ, ◌-◌, min, cond, List, [], ◌==◌, ◌≢◌, nat_lt, slice_index, slice_index_or}
 use Rattle.earliest.specs.declared.chain.How.{How}
 use Rattle.earliest.specs.declared.chain.How.TheVariants.{Start, PastClosed, ByLag}
 use Rattle.earliest.specs.declared.nodes.Node.{Node}
@@ -22,3 +22,8 @@ of_words ws = record {
 
 abbrev pub node_of : List (List ℕ) → ℕ → Node
 node_of ns e = of_words (slice_index_or ns e [])
+
+-- `after` is `before` with node e written
+pub record Put (before after : List (List ℕ)) (e : ℕ) (v : Node) : Type 0 where
+  pub here : node_of after e ≡ v
+  pub elsewhere : (f : ℕ) → (f ≢ e) → node_of after f ≡ node_of before f

@@ -1,7 +1,7 @@
 -- How the bounds are pushed up; callers need none of this. Each activity has a latest node, whose slot is
 -- the activity's bound: no list that meets the project starts the activity before it. Node 0 stands for
 -- slot 0 of any activity.
-use Rattle.std.specs.Prelude.{◌≡◌, ℕ, zero, suc, ◌+◌, ◌<◌, ◌≤◌, cond, List, map, pos, ◌+ℤ◌, Some, None, Option, nat_lt, slice_index}
+use Rattle.std.specs.Prelude.{◌≡◌, ℕ, zero, suc, ◌+◌, ◌<◌, ◌≤◌, cond, List, map, pos, ◌+ℤ◌, Some, None, Option, nat_lt, slice_index, slice_set}
 use Rattle.std.specs.List.{range_with_len}
 use Rattle.std.proofs.Props.{props}
 use Rattle.model.specs.declared.price.Price.{Price}
@@ -13,6 +13,7 @@ use Rattle.earliest.specs.declared.chain.How.{How}
 use Rattle.earliest.specs.declared.chain.How.TheVariants.{Start, PastClosed, ByLag}
 use Rattle.earliest.specs.declared.nodes.Node.{Node}
 use Rattle.earliest.specs.Chain.{cut_to, Leads}
+use Rattle.earliest.specs.Nodes.{Put}
 
 abbrev pub latest_of : List ℕ → ℕ → ℕ
 latest_of ls a = slice_index ls a
@@ -121,6 +122,12 @@ pub record Taken (ns : List (List ℕ)) (ls : List ℕ) (c : ℕ) (ns' : List (L
   pub onward : c ≤ c'
   pub idle : c' ≡ c → (ns' ≡ ns) × (ls' ≡ ls)
   pub none : r ≡ None → c' ≡ c → s ≡ None
+
+-- a node was kept: it is the next one and the latest of its activity, and no other changed
+pub record Kept (ns : List (List ℕ)) (ls : List ℕ) (c : ℕ) (ns' : List (List ℕ)) (ls' : List ℕ) (c' : ℕ) (v : Node) : Type 0 where
+  pub counted : c' ≡ c + 1
+  pub written : Put ns ns' (c + 1) v
+  pub newest : ls' ≡ slice_set ls v.entry.activity (c + 1)
 
 -- the bounds, activity by activity
 abbrev pub bounds : Meaning → (ℕ → Node) → (ℕ → ℕ) → List ℕ

@@ -1,10 +1,10 @@
 // Pushing bounds up over closed slots and lags, until nothing is left to push or one activity is
 // driven to the horizon. Each push leaves a node that says why.
-ghost use Rattle.std.specs.Prelude.{◌≡◌, ◌<◌, ◌≤◌, ◌++◌, length, drop, IfSome, pos, ◌+ℤ◌};
+ghost use Rattle.std.specs.Prelude.{◌≡◌, ◌<◌, ◌≤◌, ◌++◌, length, drop, IfSome, None, pos, ◌+ℤ◌};
 ghost use Rattle.earliest.specs.Chain.{cut_to};
 ghost use Rattle.earliest.specs.Nodes.{node_of};
 ghost use Rattle.earliest.specs.Outcome.{node_count};
-ghost use Rattle.earliest.specs.Pushing.{closed_step, lag_step, latest_of, bound, bounds, State, State-prop, Reaches, Ended, Steps, Taken};
+ghost use Rattle.earliest.specs.Pushing.{closed_step, lag_step, latest_of, bound, bounds, State, State-prop, Reaches, Ended, Steps, Taken, Kept};
 
 use crate::chain::{Entry, How};
 use crate::nodes::Node;
@@ -124,6 +124,8 @@ impl<'a, P: Project> Bounds<'a, P> {
             (node_of self.new.nodes.now) (latest_of self.new.latest) last) }
         ensures taken { Taken self.old.nodes.now self.old.latest self.old.count
             self.new.nodes.now self.new.latest self.new.count step result }
+        ensures kept { result ≡ None → IfSome step (λ v. Kept self.old.nodes.now self.old.latest self.old.count
+            self.new.nodes.now self.new.latest self.new.count v) }
     {
         let node = step?;
         if node.entry.slot.0 == self.project.horizon() {

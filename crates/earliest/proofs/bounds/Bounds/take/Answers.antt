@@ -1,7 +1,7 @@
 use Rattle.std.proofs.Common.{◌∙◌, arith, length-set, rules}
 use Rattle.earliest.specs.Nodes.{node_of}
 use Rattle.earliest.specs.Pushing.{latest_of}
-use Rattle.earliest.proofs.Loops.{few_fit, kept}
+use Rattle.earliest.proofs.Loops.{few_fit, kept, kept_one}
 use Rattle.earliest.proofs.Steps.{nodes_few}
 use Rattle.earliest.proofs.bounds.Bounds.take.Goals as goal
 
@@ -33,3 +33,10 @@ invariant_of-self g c =
 
 pub returns-then-node-horizon-clause-reaches : goal.returns-then-node-horizon-clause-reaches
 returns-then-node-horizon-clause-reaches g c = (c.requires c.in_ok-node.node c.in_ok-node.was, c.if-node-horizon.true ∙ c.horizon.ensures)
+
+pub returns-clause-kept : goal.returns-clause-kept
+returns-clause-kept g c none =
+    let x = c.args.self.now in
+    rw (c.in_ok-node.was, c.from.ensures) (kept_one x.nodes.now x.latest x.count c.into.result c.in_ok-node.node
+    (omega (arith, x.room, nodes_few (g.P.Project.meaning x.project.now) (node_of x.nodes.now) (latest_of x.latest) x.count x.state))
+    c.into.ensures)
