@@ -82,13 +82,13 @@ pub fn compare<P: Project>(project: &P) -> Verdict {
     }
 }
 
-// The answer with this much memory, or with all that there is where this is more.
-fn answer_with<P: Project>(
+// The number and the place of the refusal with this much memory, or with all that there is where this is more.
+fn refusal_with<P: Project>(
     project: &P,
     starts: usize,
     nodes: usize,
     entries: usize,
-) -> Result<(), Refusal> {
+) -> Result<(), (u16, u16)> {
     let mut memory = untouched_memory();
     earliest(
         project,
@@ -96,6 +96,7 @@ fn answer_with<P: Project>(
         &mut memory.nodes[..nodes.min(96)],
         &mut memory.chain[..entries.min(32)],
     )
+    .map_err(|refusal| (refusal.fault.number(), refusal.place))
 }
 
 /// Whether each memory that is one short is refused with the length needed, in order, and exactly
@@ -107,14 +108,11 @@ pub fn memory_is_tested<P: Project>(project: &P) -> bool {
     if nodes > 96 || entries > 32 || count > 6 || count == 0 || nodes == 0 || entries == 0 {
         return false;
     }
-    answer_with(project, count - 1, nodes - 1, entries - 1)
-        == Err(Fault::StartBytes.at(count as u16))
-        && answer_with(project, count, nodes - 1, entries - 1)
-            == Err(Fault::NodeWords.at(nodes as u16))
-        && answer_with(project, count, nodes, entries - 1)
-            == Err(Fault::ChainEntries.at(entries as u16))
+    refusal_with(project, count - 1, nodes - 1, entries - 1) == Err((13, count as u16))
+        && refusal_with(project, count, nodes - 1, entries - 1) == Err((15, nodes as u16))
+        && refusal_with(project, count, nodes, entries - 1) == Err((16, entries as u16))
         && matches!(
-            answer_with(project, count, nodes, entries).map_err(|refusal| refusal.fault),
-            Ok(()) | Err(Fault::Impossible)
+            refusal_with(project, count, nodes, entries),
+            Ok(()) | Err((18, _))
         )
 }

@@ -9,15 +9,16 @@ use Rattle.flow.specs.declared.network.Capacity.{Capacity}
 use Rattle.flow.specs.declared.network.Capacity.TheVariants.{Bounded, Unbounded}
 use Rattle.flow.specs.Nets.{Net, Bounds}
 use Rattle.flow.specs.Answers.{Told, now_told, later_told, Lists, Adjacent}
+use Rattle.flow_trial.specs.declared.table.Row.{Row}
 use Rattle.flow_trial.specs.declared.table.Table.{Table}
 use Rattle.flow_trial.specs.declared.table.End.{End}
 use Rattle.flow_trial.specs.declared.table.End.TheVariants.{Tail, Head}
 
-abbrev pub blank : Arc
-blank = record { tail = 0; head = 0; capacity = Unbounded }
+abbrev pub blank : Row
+blank = record { arc = record { tail = 0; head = 0; capacity = Unbounded } }
 
 abbrev pub entry_of : Table → ℕ → Arc
-entry_of x k = slice_index_or x.arcs.items k blank
+entry_of x k = (slice_index_or x.rows.items k blank).arc
 
 abbrev pub nodes_of : Table → ℕ
 nodes_of x = min (max x.nodes 2) 8
@@ -40,7 +41,7 @@ abbrev pub table_net : Table → Net
 table_net x =
     record {
       nodes = nodes_of x;
-      arcs = min (length x.arcs.items) 16;
+      arcs = min (length x.rows.items) 16;
       tail = λ k. node_in x (entry_of x k).tail;
       head = λ k. node_in x (entry_of x k).head;
       capacity = λ k. amount (entry_of x k).capacity;

@@ -15,7 +15,7 @@ fn on_source_side(set: u32, node: usize) -> bool {
 /// The capacity of a cut; none if an unbounded arc leaves it.
 pub fn cut_capacity(table: &Table, set: u32) -> Option<u64> {
     let mut sum = 0u64;
-    for arc in table.arcs.iter().take(16) {
+    for arc in table.rows.iter().map(|row| row.arc) {
         if on_source_side(set, arc.tail) && !on_source_side(set, arc.head) {
             let Capacity::Bounded(most) = arc.capacity else {
                 return None;

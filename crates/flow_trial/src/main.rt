@@ -15,7 +15,7 @@ const RANDOM: usize = 400;
 
 fn main(rt: HostRuntime) -> io::Result<()> {
     for (number, example) in EXAMPLES.iter().enumerate() {
-        match tried(&example.table(rt.alloc())?) {
+        match tried(&example.table()) {
             Verdict::Agrees(value) => println!(rt;
                 "textbook {number}: value {value}, as the least cut"
             )?,
@@ -28,7 +28,7 @@ fn main(rt: HostRuntime) -> io::Result<()> {
     let mut refused = 0u32;
     let mut differ = 0u32;
     for _ in 0..RANDOM {
-        match tried(&random_network(rt.alloc(), &mut generator)?) {
+        match tried(&random_network(&mut generator)) {
             Verdict::Agrees(_) => agree = agree.saturating_add(1),
             Verdict::Refused => refused = refused.saturating_add(1),
             Verdict::Differs => differ = differ.saturating_add(1),

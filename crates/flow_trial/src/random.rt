@@ -1,7 +1,6 @@
 // Small random networks, the same in every run.
 use crate::table::Table;
 use flow::network::Capacity;
-use std::alloc::{AllocError, Global};
 
 /// A linear congruential generator. Its numbers have 16 bits, from a state of 64; one text for it and for the bytes
 /// that small projects are drawn from would be longer than both.
@@ -26,10 +25,10 @@ impl Generator {
 }
 
 /// A network of 2 to 8 nodes and up to 16 arcs; one arc in eight is unbounded.
-pub fn random_network(alloc: Global, generator: &mut Generator) -> Result<Table, AllocError> {
+pub fn random_network(generator: &mut Generator) -> Table {
     let nodes = generator.draw() % 7 + 2;
     let arcs = generator.draw() % 17;
-    let mut table = Table::new(alloc, nodes);
+    let mut table = Table::new(nodes);
     for _ in 0..arcs {
         let tail = generator.draw() % nodes;
         let head = generator.draw() % nodes;
@@ -37,7 +36,7 @@ pub fn random_network(alloc: Global, generator: &mut Generator) -> Result<Table,
             0 => Capacity::Unbounded,
             _ => Capacity::Bounded((generator.draw() % 21) as u32),
         };
-        table.add(tail, head, capacity)?;
+        table.add(tail, head, capacity);
     }
-    Ok(table)
+    table
 }

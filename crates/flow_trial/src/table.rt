@@ -4,14 +4,32 @@ ghost use Rattle.std.specs.Prelude.{◌≡◌, ◌<◌};
 ghost use Rattle.flow.specs.Answers.{arc_at};
 ghost use Rattle.flow_trial.specs.Tables as tables;
 
+use arrayvec::ArrayVec;
 use flow::network::{Arc, Capacity, Network, Step};
-use std::alloc::{AllocError, Global};
 
-/// A node count, and arcs of which the first 16 count.
+/// A place for an arc in a table. Where it holds none, an unbounded arc from the source to itself stands for it.
+#[derive(Clone, Copy)]
+pub struct Row {
+    pub arc: Arc,
+}
+
+impl Default for Row {
+    fn default() -> Row {
+        Row {
+            arc: Arc {
+                tail: 0,
+                head: 0,
+                capacity: Capacity::Unbounded,
+            },
+        }
+    }
+}
+
+/// A node count, and 16 arcs at most, for which nothing is allocated.
 #[derive(Drop)]
 pub struct Table {
     pub nodes: usize,
-    pub arcs: Vec<Arc>,
+    pub rows: ArrayVec<Row, 16>,
 }
 
 /// An end of an arc.
@@ -44,21 +62,21 @@ fn told(arc: usize, node: usize) -> Step
 
 impl Table {
     /// A table without arcs.
-    pub fn new(alloc: Global, nodes: usize) -> Table {
+    pub fn new(nodes: usize) -> Table {
         Table {
             nodes,
-            arcs: Vec::new(alloc),
+            rows: ArrayVec::new(),
         }
     }
 
-    /// Adds an arc.
-    pub fn add(&mut self, tail: usize, head: usize, capacity: Capacity) -> Result<(), AllocError> {
-        self.arcs.push(Arc {
+    /// Adds an arc, if there is room for one.
+    pub fn add(&mut self, tail: usize, head: usize, capacity: Capacity) {
+        let arc = Arc {
             tail,
             head,
             capacity,
-        })?;
-        Ok(())
+        };
+        let _ = self.rows.try_push(Row { arc });
     }
 
     fn node(&self, v: usize) -> usize
@@ -72,7 +90,7 @@ impl Table {
         requires { k < (tables.table_net self.now).arcs }
         ensures { result ≡ arc_at (tables.table_net self.now) k }
     {
-        let arc = self.arcs[k];
+        let arc = self.rows.as_slice()[k].arc;
         Arc {
             tail: self.node(arc.tail),
             head: self.node(arc.head),
@@ -125,7 +143,7 @@ impl Network for Table {
     }
 
     fn arc_count(&self) -> usize {
-        self.arcs.len().min(16)
+        self.rows.len().min(16)
     }
 
     fn arc(&self, k: usize) -> Option<Arc> {

@@ -3,7 +3,6 @@
 use crate::table::Table;
 use flow::network::Capacity;
 use flow::network::Capacity::{Bounded, Unbounded};
-use std::alloc::{AllocError, Global};
 
 /// A textbook's network.
 pub struct Example {
@@ -107,11 +106,11 @@ pub static EXAMPLES: [Example; 12] = [
 ];
 
 impl Example {
-    pub fn table(&self, alloc: Global) -> Result<Table, AllocError> {
-        let mut table = Table::new(alloc, self.nodes);
+    pub fn table(&self) -> Table {
+        let mut table = Table::new(self.nodes);
         for (tail, head, capacity) in self.arcs.iter().copied() {
-            table.add(tail, head, capacity)?;
+            table.add(tail, head, capacity);
         }
-        Ok(table)
+        table
     }
 }
